@@ -1,0 +1,6 @@
+pub mod Scopes
+pub mod Tokens
+pub mod Sound
+pub mod Chains
+pub mod Clearing
+pub mod Growth
