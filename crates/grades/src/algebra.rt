@@ -7,7 +7,8 @@ ghost use lib.ListN.{length};
 ghost use Rattle.std.specs.Orderings.{Decides};
 ghost use Rattle.std.specs.declared.option.Option.{Option};
 ghost use Rattle.grades.specs.Laws.{Laws};
-ghost use Rattle.grades.specs.Texts.{Text, room-left, put};
+ghost use Rattle.grades.specs.Texts.{Text};
+ghost use Rattle.text.specs.Put.{room-left, put};
 
 // Grades say how often a name may be read. The operations answer by their operands alone, and only `take` can refuse.
 pub trait Algebra: Copy {

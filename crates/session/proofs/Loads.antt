@@ -1,0 +1,15 @@
+-- A load whose grade list is long enough leaves what the reading leaves. Assumes nothing.
+use mathlib.Core.Path.{_≡_, sym, ap, _∙_}
+use mathlib.Core.List.{List}
+use Prim.Native.Nat.{ℕ, _≤_}
+use lib.ListN.{length}
+use Rattle.std.proofs.shelf.Tests.{cond-false, le-ltb}
+use Rattle.std.specs.declared.option.Option.{Option}
+use Rattle.std.specs.declared.result.Result.{Result}
+use Rattle.language.specs.declared.refusal.Fault.{Fault}
+use Rattle.language.specs.Reading.{Tables, program-read}
+use Rattle.session.specs.Sessions.{Model, with-rule, loaded}
+
+pub loaded-from : {G : Type 0} (reading : List ℕ → Option (G × ℕ)) (one nil : G) (text : List ℕ) (m : Model) (t : Tables) (l : List G) → 256 ≤ length l → (x : Result (Unit {0}) Fault × Tables × List G) → x ≡ program-read reading one nil text t l → with-rule x ≡ loaded reading one nil text m l
+loaded-from reading one nil text m t l long x e =
+    ap with-rule (e ∙ cond-false _ _ _ (le-ltb (length l) 256 long)) ∙ sym (cond-false _ _ _ (le-ltb (length l) 256 long))

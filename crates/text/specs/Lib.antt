@@ -1,0 +1,3 @@
+pub mod Scan
+pub mod Decimals
+pub mod Put
