@@ -4,3 +4,11 @@ pub mod Sound
 pub mod Chains
 pub mod Clearing
 pub mod Growth
+pub mod Beginnings
+pub mod Unique
+pub mod Sizes
+pub mod Complete
+pub mod SoundTypes
+pub mod SoundTerms
+pub mod SoundRules
+pub mod Theorem

@@ -5,3 +5,7 @@ pub mod Tokens
 pub mod Tables
 pub mod Reading
 pub mod Growth
+pub mod Syntax
+pub mod Grammar
+pub mod Storing
+pub mod Sentences

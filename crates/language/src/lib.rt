@@ -1,4 +1,5 @@
 // The language of rules: tokens, names, terms, program tables and the reader.
+pub mod exactness;
 pub mod heads;
 pub mod keyword;
 pub mod program;
@@ -9,6 +10,7 @@ pub mod store;
 pub mod tables;
 pub mod token;
 
+pub use exactness::reading_is_exact;
 pub use program::Binder;
 pub use program::Node;
 pub use program::SimpleType;

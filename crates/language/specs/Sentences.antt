@@ -1,0 +1,31 @@
+-- What reading means: it accepts the sentences of the grammar within the limits, and stores their rules. Assumes nothing.
+use mathlib.Core.Path.{_≡_}
+use mathlib.Core.Logic.{_↔_}
+use mathlib.Core.List.{List, []}
+use Prim.Native.Nat.{ℕ}
+use Rattle.std.specs.declared.option.Option.{Option}
+use Rattle.std.specs.declared.result.Result.the-variants.{Ok}
+use Rattle.language.specs.Tokens.{Lexed}
+use Rattle.language.specs.Syntax.{Rule}
+use Rattle.language.specs.Grammar.{Lexes, RuleIn, Within}
+use Rattle.language.specs.Reading.{State, state, no-tables, text-read}
+use Rattle.language.specs.Storing.{ruled}
+
+module _ {G : Type 0} (reading : List ℕ → Option (G × ℕ)) (one : G) where
+  -- the text is a sentence of the grammar, and r is its rule
+  pub record Sentence (text : List ℕ) (r : Rule G) : Type 0 where
+    pub tokens : List (Lexed G)
+    pub lexes : Lexes reading text 0 tokens
+    pub parses : RuleIn one [] tokens r
+
+  -- a sentence within the limits, whose rule is stored as s in empty tables and the grade list
+  pub record Accepted (text : List ℕ) (list : List G) (s : State G) : Type 0 where
+    pub rule : Rule G
+    pub sentence : Sentence text rule
+    pub within : Within text rule
+    pub stored : s ≡ ruled rule (state no-tables list)
+
+  -- reading accepts exactly the sentences within the limits and stores their rules, and a text has at most one rule
+  pub record Exact : Type 0 where
+    pub accepts : (text : List ℕ) (list : List G) (s : State G) → (text-read reading one text list ≡ Ok (tt, s)) ↔ Accepted text list s
+    pub unique : (text : List ℕ) (r q : Rule G) → Sentence text r → Sentence text q → r ≡ q
