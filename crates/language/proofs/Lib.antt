@@ -11,4 +11,8 @@ pub mod Complete
 pub mod SoundTypes
 pub mod SoundTerms
 pub mod SoundRules
+pub mod Extends
+pub mod Recovery
+pub mod Spelling
+pub mod Recovered
 pub mod Theorem

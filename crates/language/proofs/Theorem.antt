@@ -14,12 +14,15 @@ use Rattle.language.specs.Reading.{State, state, no-tables, rule, text-read}
 use Rattle.language.specs.Syntax.{Rule, term-words, run-of, rule-grades}
 use Rattle.language.specs.Grammar.{RuleIn}
 use Rattle.language.specs.Storing.{ruled}
+use Rattle.language.specs.Recovering.{rule-in}
 use Rattle.language.specs.Sentences.{Sentence, Accepted, Exact}
 use Rattle.language.proofs.Beginnings.{absurd-ok}
 use Rattle.language.proofs.Sizes.{ruled-words, ruled-grades}
 use Rattle.language.proofs.Unique.{lexes-same, rule-same}
 use Rattle.language.proofs.Complete.{rule-complete}
 use Rattle.language.proofs.SoundRules.{Rule-read, rule-sound}
+use Rattle.language.proofs.Recovered.{stored-held, ruled-long}
+use Rattle.language.proofs.Spelling.{rule-spelled}
 
 -- a test that did not refuse
 passed : {X : Type 0} (b : Bool) (f : Fault) (r : Result X Fault) (x : X) → cond b (Err f) r ≡ Ok x → (b ≡ false) × (r ≡ Ok x)
@@ -35,6 +38,9 @@ few-of n k e h = omega arith
 
 no-more : {n most : ℕ} → n ≤ most → 0 + n ≤ most
 no-more {n} {most} h = omega arith
+
+enough : {n k l m : ℕ} → n ≡ 0 + k → l ≡ m → k ≤ 256 → 256 ≤ m → n ≤ l
+enough {n} {k} {l} {m} e f h i = omega arith
 
 module _ {G : Type 0} (reading : List ℕ → Option (G × ℕ)) (one : G) where
   accepted-from : (text : List ℕ) (list : List G) (s : State G) → text-read reading one text list ≡ Ok (tt, s) → Accepted reading one text list s
@@ -69,5 +75,13 @@ module _ {G : Type 0} (reading : List ℕ → Option (G × ℕ)) (one : G) where
   one-rule : (text : List ℕ) (r q : Rule G) → Sentence reading one text r → Sentence reading one text q → r ≡ q
   one-rule text r q a b = rule-same (a .parses) (subst (λ l. RuleIn one [] l q) (sym (lexes-same (a .lexes) (b .lexes))) (b .parses))
 
+  recovered : (beyond : G) (text : List ℕ) (list : List G) (s : State G) → 256 ≤ length list → (a : Accepted reading one text list s) → rule-in beyond text (s .list) (s .program) ≡ a .rule
+  recovered beyond text list s long a =
+      let r = a .rule in
+      let start = state no-tables list in
+      let full : ruled r start .program .grades ≤ length (ruled r start .list) = enough (ruled-grades r start) (ruled-long r start) (a .within .few-grades) long in
+      ap (λ t. rule-in beyond text (t .list) (t .program)) (a .stored)
+      ∙ stored-held beyond text r start refl refl full (rule-spelled reading text one (a .sentence .parses) (a .sentence .lexes))
+
   pub exact : Exact reading one
-  exact = record { accepts = λ text list s. (accepted-from text list s, read-from text list s); unique = one-rule }
+  exact = record { accepts = λ text list s. (accepted-from text list s, read-from text list s); recovers = recovered; unique = one-rule }

@@ -8,4 +8,5 @@ pub mod Growth
 pub mod Syntax
 pub mod Grammar
 pub mod Storing
+pub mod Recovering
 pub mod Sentences
