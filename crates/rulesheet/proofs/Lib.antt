@@ -1,0 +1,4 @@
+mod Cuts
+mod Grades
+mod Numbers
+mod Prints
