@@ -1,6 +1,7 @@
 // Making a session, loading a rule, and looking at its inputs.
 ghost use mathlib.Core.Path.{_≡_};
 ghost use Rattle.std.specs.Vec.{made};
+ghost use Rattle.language.specs.Sentences.{Exact};
 ghost use Rattle.session.specs.Sessions.{model-of, no-rule, loaded, input-at};
 use crate::phase::Phase;
 use crate::state::Session;
@@ -26,8 +27,10 @@ impl Session {
     }
 
     // Reads the text of a rule, in place of any earlier one, and writes its grades into the grade list.
+    // By its second clause, what is read are exactly the sentences of the grammar within the limits.
     pub fn load<G: Written>(&mut self, text: &[u8], grades: &mut [G]) -> Result<(), Fault>
-        ensures { λ r. ⌜ (r, model-of (now (self .exit)), now (grades .exit)) ≡ loaded reading (G·Algebra .unit) (G·Algebra .nil) (now (text .entry)) (model-of (now (self .entry))) (now (grades .entry)) ⌝ }
+        ensures loads { λ r. ⌜ (r, model-of (now (self .exit)), now (grades .exit)) ≡ loaded reading (G·Algebra .unit) (G·Algebra .nil) (now (text .entry)) (model-of (now (self .entry))) (now (grades .entry)) ⌝ }
+        ensures exact { λ _. ⌜ Exact reading (G·Algebra .unit) ⌝ }
     {
         if grades.len() < GRADES {
             return Err(Fault { refusal: Refusal::ShortList, place: 0 });
