@@ -71,8 +71,6 @@ begins-from scope (number w z) place h e = subst (Begins scope (number w z)) (ok
 begins-from scope (grade w g) place h e = absurd-ok e
 begins-from scope end place h e = absurd-ok e
 
-
-
 -- a binder's name
 name-word : (w : List ℕ) (place : ℕ) (v : List ℕ) (o : Option Keyword) → keyword-of w ≡ o → unless-keyword w place o ≡ Ok v → (w ≡ v) × (keyword-of w ≡ None)
 name-word w place v None e g = (ok-same _ _ g, e)

@@ -54,13 +54,13 @@ module _ {G : Type 0} (reading : List ℕ → Option (G × ℕ)) (one : G) (text
       (next : ℕ) × (binder reading text one at s ≡ Ok (bound (n .bytes) (entry n (keep-grade g s .0)) next, keep-grade g s .1)) × Lexes reading text next rest
   binder-complete (written {t} {u} {w} {v} {g} is key ge) at s (more e1 s1 (more e2 s2 l)) few =
       let grade-read : binder-grade reading text one (t .place) (t .next) s ≡ Ok (parsed (keep-grade g s .0) (u .next), keep-grade g s .1) =
-          goes-on _ _ _ (sym e2) ∙ ap (λ x. grade-or reading text one (t .place) (t .next) x (u .place) (u .next) s) ge ∙ goes-on _ _ _ (sym (graded-is g (u .place) s (omega arith))) in
+      goes-on _ _ _ (sym e2) ∙ ap (λ x. grade-or reading text one (t .place) (t .next) x (u .place) (u .next) s) ge ∙ goes-on _ _ _ (sym (graded-is g (u .place) s (omega arith))) in
       (u .next, goes-on _ _ _ (sym e1) ∙ goes-on _ _ _ (sym (name-is (t .token) (t .place) w is key)) ∙ goes-on _ _ _ (sym grade-read), l)
   binder-complete (bare {t} {w} is key un) at s (more e1 s1 l) few =
       let after = next-token l un in
       let u = after .0 in
       let grade-read : binder-grade reading text one (t .place) (t .next) s ≡ Ok (parsed (keep-grade one s .0) (t .next), keep-grade one s .1) =
-          goes-on _ _ _ (sym (after .1)) ∙ ungraded (t .place) (t .next) (u .place) (u .next) s (u .token) (after .2) ∙ goes-on _ _ _ (sym (graded-is one (t .place) s (omega arith))) in
+      goes-on _ _ _ (sym (after .1)) ∙ ungraded (t .place) (t .next) (u .place) (u .next) s (u .token) (after .2) ∙ goes-on _ _ _ (sym (graded-is one (t .place) s (omega arith))) in
       (t .next, goes-on _ _ _ (sym e1) ∙ goes-on _ _ _ (sym (name-is (t .token) (t .place) w is key)) ∙ goes-on _ _ _ (sym grade-read), l)
 
   type-complete : {ts rest : List (Lexed G)} {a : Ty G} → TypeIn one ts a rest → (d at : ℕ) (s : State G) → Lexes reading text at ts → type-depth a ≤ d → s .program .words + type-words a ≤ 512 → s .program .grades + type-grades a ≤ 256 → Reads (simple-type reading text d at s) (typed a s) rest

@@ -51,7 +51,12 @@ module _ {G : Type 0} where
 
   pub by-grade : (g : G) (s : State G) → Extends s (keep-grade g s .1)
   by-grade g s = record {
-    more-binders = []; more-types = []; more-nodes = []; binders = sym (append-nil _); types = sym (append-nil _); nodes = sym (append-nil _);
+    more-binders = [];
+    more-types = [];
+    more-nodes = [];
+    binders = sym (append-nil _);
+    types = sym (append-nil _);
+    nodes = sym (append-nil _);
     grades = omega arith;
     kept = λ i d h. let ne : i ≢ s .program .grades = omega arith in getD-set-other (s .list) (s .program .grades) i g d ne;
     long = length-set (s .list) (s .program .grades) g;

@@ -25,8 +25,8 @@ each-push P xs x d all last i h =
     ⊎-elim
     (λ below. subst (P i) (sym (getD-append-left xs (x ∷ []) d i below)) (all i below))
     (λ past.
-        let here : length xs ≡ i = omega (arith, length-push xs x) in
-        subst (P i) (sym (getD-push xs x d i here)) (subst (λ k. P k x) here last))
+    let here : length xs ≡ i = omega (arith, length-push xs x) in
+    subst (P i) (sym (getD-push xs x d i here)) (subst (λ k. P k x) here last))
     (cases-lt i (length xs))
 
 below-more : (a n m : ℕ) → n ≤ m → ltb a n ≡ true → ltb a m ≡ true

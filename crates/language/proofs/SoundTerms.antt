@@ -83,6 +83,7 @@ module _ {G : Type 0} (reading : List ℕ → Option (G × ℕ)) (one : G) (text
           few-words = λ _. subst (λ z. z .1 .program .words ≤ 512) gives (body .few-words);
           few-grades = λ _. subst (λ z. z .1 .program .grades ≤ 256) gives (body .few-grades (type .few-grades (subst (λ r. r .program .grades ≤ 256) (sym (bound .stored)) (one-more (bound .few)))));
         }
+
     binary-sound : (form : Binary) (a b : Parsed × State G) → term-inside reading text one d scope at s ≡ Ok a → term-inside reading text one d scope (a .0 .next) (a .1) ≡ Ok b →
         _≡_ {A = Formed × State G} (formed (forms.binary form (a .0 .index) (b .0 .index)) (b .0 .next), b .1) x → Parts-read d scope place (heads.Binary form) at s x rest
     binary-sound form a b e1 e2 gives =
@@ -101,6 +102,7 @@ module _ {G : Type 0} (reading : List ℕ → Option (G × ℕ)) (one : G) (text
           few-words = λ _. subst (λ z. z .1 .program .words ≤ 512) gives (second .few-words);
           few-grades = λ few. subst (λ z. z .1 .program .grades ≤ 256) gives (second .few-grades (first .few-grades few));
         }
+
     half-sound : (a : Parsed × State G) → term-inside reading text one d scope at s ≡ Ok a →
         _≡_ {A = Formed × State G} (formed (Half (a .0 .index)) (a .0 .next), a .1) x → Parts-read d scope place heads.Half at s x rest
     half-sound a e1 gives =
@@ -115,6 +117,7 @@ module _ {G : Type 0} (reading : List ℕ → Option (G × ℕ)) (one : G) (text
           few-words = λ _. subst (λ z. z .1 .program .words ≤ 512) gives (first .few-words);
           few-grades = λ few. subst (λ z. z .1 .program .grades ≤ 256) gives (first .few-grades few);
         }
+
     less-sound : (a b c f : Parsed × State G) → term-inside reading text one d scope at s ≡ Ok a → term-inside reading text one d scope (a .0 .next) (a .1) ≡ Ok b → term-inside reading text one d scope (b .0 .next) (b .1) ≡ Ok c → term-inside reading text one d scope (c .0 .next) (c .1) ≡ Ok f →
         _≡_ {A = Formed × State G} (formed (Less (a .0 .index) (b .0 .index) (c .0 .index) (f .0 .index)) (f .0 .next), f .1) x → Parts-read d scope place heads.Less at s x rest
     less-sound a b c f e1 e2 e3 e4 gives =

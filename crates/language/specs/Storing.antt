@@ -8,7 +8,7 @@ use Rattle.language.specs.declared.program.SimpleType.the-variants.{Num, To}
 use Rattle.language.specs.declared.program.Term.{Term}
 use Rattle.language.specs.declared.program.Term.the-variants.{Name, Number, Fn, Half, Less}
 use Rattle.language.specs.Syntax.{Label, Ty, num, to, Tm, name, literal, fn, binary, half, less, Rule, input, run}
-use Rattle.language.specs.Reading.{State, state, changed, with-word, with-grade, with-binder, with-input, with-type, with-node} 
+use Rattle.language.specs.Reading.{State, state, changed, with-word, with-grade, with-binder, with-input, with-type, with-node}
 use Rattle.language.specs.Reading as reading
 
 -- what is stored of a binder whose grade has a place

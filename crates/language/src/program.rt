@@ -12,7 +12,11 @@ pub struct Binder {
 #[derive(Clone, Copy)]
 pub enum SimpleType {
     Num,
-    To { grade: usize, from: usize, to: usize },
+    To {
+        grade: usize,
+        from: usize,
+        to: usize,
+    },
 }
 
 // A term. A name is the number of open binders that are passed from the innermost outwards.
@@ -20,12 +24,32 @@ pub enum SimpleType {
 pub enum Term {
     Name(usize),
     Number(i32),
-    Fn { binder: usize, domain: usize, body: usize },
-    Call { function: usize, argument: usize },
-    Add { left: usize, right: usize },
-    Sub { left: usize, right: usize },
-    Half { part: usize },
-    Less { left: usize, right: usize, below: usize, otherwise: usize },
+    Fn {
+        binder: usize,
+        domain: usize,
+        body: usize,
+    },
+    Call {
+        function: usize,
+        argument: usize,
+    },
+    Add {
+        left: usize,
+        right: usize,
+    },
+    Sub {
+        left: usize,
+        right: usize,
+    },
+    Half {
+        part: usize,
+    },
+    Less {
+        left: usize,
+        right: usize,
+        below: usize,
+        otherwise: usize,
+    },
 }
 
 // A term with the place of its first token.

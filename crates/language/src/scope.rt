@@ -17,7 +17,10 @@ impl<'a> Scope<'a> {
         ensures names { λ r. ⌜ open-names r ≡ [] ⌝ }
         ensures count { λ r. ⌜ r .count ≡ 0 ⌝ }
     {
-        Scope { names: [b""; 32], count: 0 }
+        Scope {
+            names: [b""; 32],
+            count: 0,
+        }
     }
 
     // The scope inside one more binder.

@@ -16,6 +16,7 @@ use std::alloc::Global;
 
 // The most binders, and the most term and type words.
 const MOST_BINDERS: usize = 520;
+
 const MOST_WORDS: usize = 512;
 
 impl Program {
@@ -54,7 +55,10 @@ impl Program {
         ensures words { λ r. ⌜ made r (λ _. tables-of (now (self .exit)) ≡ with-word (tables-of (now (self .entry)))) ⌝ }
     {
         if depth == 0 || self.words >= MOST_WORDS {
-            return Err(Fault { refusal: Refusal::Limit, place });
+            return Err(Fault {
+                refusal: Refusal::Limit,
+                place,
+            });
         }
         self.words += 1;
         Ok(depth - 1)

@@ -15,6 +15,7 @@ use text::run_end;
 const LONGEST_WORD: usize = 16;
 // The greatest number, and how far below zero the least one is.
 const GREATEST: u32 = 2_147_483_647;
+
 const LEAST_NEGATED: u32 = 2_147_483_648;
 
 // A token is a part of the text: a word, a number or a grade with its value, or the end of the text.
@@ -40,14 +41,21 @@ pub fn token_at<G: Written>(text: &[u8], from: usize) -> Result<Placed<'_, G>, F
 {
     let place = run_end(text, from, Class::Blank);
     if place >= text.len() {
-        return Ok(Placed { token: Token::End, place, next: place });
+        return Ok(Placed {
+            token: Token::End,
+            place,
+            next: place,
+        });
     }
     match text[place] as char {
         'a'..='z' | 'A'..='Z' => word_at(text, place),
         '0'..='9' => number_at(text, place),
         '-' => negative_at(text, place),
         '{' => grade_at(text, place),
-        _ => Err(Fault { refusal: Refusal::NoToken, place }),
+        _ => Err(Fault {
+            refusal: Refusal::NoToken,
+            place,
+        }),
     }
 }
 
@@ -57,9 +65,16 @@ fn word_at<G: Written>(text: &[u8], place: usize) -> Result<Placed<'_, G>, Fault
 {
     let next = run_end(text, place, Class::Wordy);
     if next - place > LONGEST_WORD {
-        return Err(Fault { refusal: Refusal::BadToken, place });
+        return Err(Fault {
+            refusal: Refusal::BadToken,
+            place,
+        });
     }
-    Ok(Placed { token: Token::Word(&text[place..next]), place, next })
+    Ok(Placed {
+        token: Token::Word(&text[place..next]),
+        place,
+        next,
+    })
 }
 
 fn number_at<G: Written>(text: &[u8], place: usize) -> Result<Placed<'_, G>, Fault>
@@ -68,9 +83,16 @@ fn number_at<G: Written>(text: &[u8], place: usize) -> Result<Placed<'_, G>, Fau
 {
     let next = run_end(text, place, Class::Digit);
     let Some(n) = decimal(&text[place..next], GREATEST) else {
-        return Err(Fault { refusal: Refusal::BadToken, place });
+        return Err(Fault {
+            refusal: Refusal::BadToken,
+            place,
+        });
     };
-    Ok(Placed { token: Token::Number(&text[place..next], n as i32), place, next })
+    Ok(Placed {
+        token: Token::Number(&text[place..next], n as i32),
+        place,
+        next,
+    })
 }
 
 // The number `-n`.
@@ -88,11 +110,21 @@ fn negative_at<G: Written>(text: &[u8], place: usize) -> Result<Placed<'_, G>, F
 {
     let next = run_end(text, place + 1, Class::Digit);
     if next == place + 1 {
-        return Err(Fault { refusal: Refusal::NoToken, place });
+        return Err(Fault {
+            refusal: Refusal::NoToken,
+            place,
+        });
     }
     match decimal(&text[place + 1..next], LEAST_NEGATED) {
-        Some(n) if n > 0 => Ok(Placed { token: Token::Number(&text[place..next], negated(n)), place, next }),
-        _ => Err(Fault { refusal: Refusal::BadToken, place }),
+        Some(n) if n > 0 => Ok(Placed {
+            token: Token::Number(&text[place..next], negated(n)),
+            place,
+            next,
+        }),
+        _ => Err(Fault {
+            refusal: Refusal::BadToken,
+            place,
+        }),
     }
 }
 
@@ -103,14 +135,27 @@ fn grade_at<G: Written>(text: &[u8], place: usize) -> Result<Placed<'_, G>, Faul
 {
     let close = run_end(text, place + 1, Class::Inside);
     if close >= text.len() {
-        return Err(Fault { refusal: Refusal::BadGrade, place });
+        return Err(Fault {
+            refusal: Refusal::BadGrade,
+            place,
+        });
     }
     let inside = &text[place + 1..close];
     let Some((g, n)) = G::read(inside) else {
-        return Err(Fault { refusal: Refusal::BadGrade, place });
+        return Err(Fault {
+            refusal: Refusal::BadGrade,
+            place,
+        });
     };
     if n != inside.len() {
-        return Err(Fault { refusal: Refusal::BadGrade, place });
+        return Err(Fault {
+            refusal: Refusal::BadGrade,
+            place,
+        });
     }
-    Ok(Placed { token: Token::Grade(&text[place..close + 1], g), place, next: close + 1 })
+    Ok(Placed {
+        token: Token::Grade(&text[place..close + 1], g),
+        place,
+        next: close + 1,
+    })
 }

@@ -41,7 +41,11 @@ fn part(text: &[u8], place: usize, len: usize) -> &[u8]
 fn grade_at<G: Written>(grades: &[G], i: usize) -> G
     ensures { λ r. ⌜ r ≡ getD (now (grades .entry)) i (G·Algebra .nil) ⌝ }
 {
-    if i < grades.len() { grades[i] } else { G::zero() }
+    if i < grades.len() {
+        grades[i]
+    } else {
+        G::zero()
+    }
 }
 
 // The text of a grade.
@@ -57,7 +61,13 @@ fn written<G: Written>(heap: Global, grade: G) -> Result<Vec<u8>, AllocError>
 }
 
 // Adds the line of an input: its name, its grade, and the end of the line.
-fn add_line<G: Written>(heap: Global, out: &mut Vec<u8>, text: &[u8], binder: Binder, grades: &[G]) -> Result<(), AllocError>
+fn add_line<G: Written>(
+    heap: Global,
+    out: &mut Vec<u8>,
+    text: &[u8],
+    binder: Binder,
+    grades: &[G],
+) -> Result<(), AllocError>
     ensures { λ r. ⌜ made r (λ _. vec-items (now (out .exit)) ≡ vec-items (now (out .entry)) ++ input-line (G·Written .writing) (G·Algebra .nil) (now (text .entry)) (now (grades .entry)) binder) ⌝ }
 {
     let grade = written(heap, grade_at(grades, binder.grade))?;
@@ -68,7 +78,12 @@ fn add_line<G: Written>(heap: Global, out: &mut Vec<u8>, text: &[u8], binder: Bi
     Ok(())
 }
 
-fn inputs_printed<G: Written>(heap: Global, text: &[u8], session: &Session, grades: &[G]) -> Result<Vec<u8>, AllocError>
+fn inputs_printed<G: Written>(
+    heap: Global,
+    text: &[u8],
+    session: &Session,
+    grades: &[G],
+) -> Result<Vec<u8>, AllocError>
     ensures { λ r. ⌜ made r (λ v. vec-items v ≡ read-lines (G·Written .writing) (G·Algebra .nil) (now (text .entry)) (model-of (now (session .entry))) (now (grades .entry))) ⌝ }
 {
     let mut out = Vec::from_slice(heap, b"read\n")?;
@@ -92,7 +107,12 @@ fn zeros<G: Written>(heap: Global) -> Result<Vec<G>, AllocError>
 }
 
 // Loads the rule that the text is, and prints the refusal or the inputs.
-fn load_printed<G: Written>(heap: Global, text: &[u8], session: &mut Session, grades: &mut [G]) -> Result<Vec<u8>, AllocError>
+fn load_printed<G: Written>(
+    heap: Global,
+    text: &[u8],
+    session: &mut Session,
+    grades: &mut [G],
+) -> Result<Vec<u8>, AllocError>
     ensures { λ r. ⌜ made r (λ v. vec-items v ≡ listing (G·Written .writing) (G·Algebra .nil) (now (text .entry)) (loaded (G·Written .reading) (G·Algebra .unit) (G·Algebra .nil) (now (text .entry)) (model-of (now (session .entry))) (now (grades .entry)))) ⌝ }
 {
     match session.load(text, grades) {

@@ -21,7 +21,9 @@ use std::io::Read;
 use std::io::Write;
 
 const BAD_KIND: &str = "the first line has to be the kind of the grades: span, level or span|level";
-const BAD_READINGS: &str = "the second line has to be readings: whole numbers from -2147483648 to 2147483647, with blanks between";
+
+const BAD_READINGS: &str =
+    "the second line has to be readings: whole numbers from -2147483648 to 2147483647, with blanks between";
 
 fn run(rt: &LibcRuntime) -> Result<(), AnyError> {
     let heap = rt.alloc();

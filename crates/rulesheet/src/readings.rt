@@ -13,6 +13,7 @@ use text::decimal;
 
 // The greatest reading, and how far below zero the least one is.
 const GREATEST: u32 = 2_147_483_647;
+
 const LEAST_NEGATED: u32 = 2_147_483_648;
 
 fn is_blank(b: u8) -> bool

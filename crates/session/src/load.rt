@@ -23,7 +23,10 @@ impl Session {
         ensures { λ r. ⌜ made r (λ s. model-of s ≡ no-rule) ⌝ }
     {
         let program = Program::new(heap)?;
-        Ok(Session { program, phase: Phase::Empty })
+        Ok(Session {
+            program,
+            phase: Phase::Empty,
+        })
     }
 
     // Reads the text of a rule, in place of any earlier one, and writes its grades into the grade list.
@@ -33,7 +36,10 @@ impl Session {
         ensures exact { λ _. ⌜ Exact reading (G·Algebra .unit) ⌝ }
     {
         if grades.len() < GRADES {
-            return Err(Fault { refusal: Refusal::ShortList, place: 0 });
+            return Err(Fault {
+                refusal: Refusal::ShortList,
+                place: 0,
+            });
         }
         match read_program(text, &mut self.program, grades) {
             Ok(()) => {

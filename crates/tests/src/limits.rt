@@ -53,7 +53,13 @@ fn many_grades(heap: Global, inputs: usize) -> Result<Vec<u8>, AllocError> {
 }
 
 // Checks the text with the last term, which is refused at the place counted from its own start, or read where the number is zero.
-fn expect_last(heap: Global, inputs: usize, last: &[u8], number: u8, place: usize) -> Result<(), Fail> {
+fn expect_last(
+    heap: Global,
+    inputs: usize,
+    last: &[u8],
+    number: u8,
+    place: usize,
+) -> Result<(), Fail> {
     let mut text = many_grades(heap, inputs)?;
     let start = text.len();
     text.extend_from_slice(last)?;
@@ -103,7 +109,15 @@ fn words(rt: LibcRuntime) -> Result<(), Fail> {
 }
 
 // `times` parts, each inside the one before, between the words before and after them.
-fn expect_nested(heap: Global, before: &[u8], part: &[u8], times: usize, after: &[u8], number: u8, place: usize) -> Result<(), Fail> {
+fn expect_nested(
+    heap: Global,
+    before: &[u8],
+    part: &[u8],
+    times: usize,
+    after: &[u8],
+    number: u8,
+    place: usize,
+) -> Result<(), Fail> {
     let mut text = Vec::from_slice(heap, before)?;
     add_times(&mut text, part, times)?;
     text.extend_from_slice(after)?;

@@ -53,9 +53,13 @@ fn zeros_after_a_refusal(rt: LibcRuntime) -> Result<(), Fail> {
     let old = span(9, Some(9))?;
     let mut session = Session::new(rt.alloc())?;
     let mut grades = grades_of(rt.alloc(), old, 257)?;
-    let read = session.load::<Span>(b"input a {1..2} run a", grades.as_mut_slice()).is_ok();
+    let read = session
+        .load::<Span>(b"input a {1..2} run a", grades.as_mut_slice())
+        .is_ok();
     check(read)?;
-    let read = session.load::<Span>(b"input a {1..2} run b", grades.as_mut_slice()).is_ok();
+    let read = session
+        .load::<Span>(b"input a {1..2} run b", grades.as_mut_slice())
+        .is_ok();
     check(!read && session.input(0).is_none())?;
     expect_rest(grades.as_slice(), 0, old)
 }
@@ -65,7 +69,9 @@ fn nothing_changed_by_a_short_list(rt: LibcRuntime) -> Result<(), Fail> {
     let old = span(9, Some(9))?;
     let mut session = Session::new(rt.alloc())?;
     let mut grades = grades_of(rt.alloc(), old, 256)?;
-    let read = session.load::<Span>(b"input old run old", grades.as_mut_slice()).is_ok();
+    let read = session
+        .load::<Span>(b"input old run old", grades.as_mut_slice())
+        .is_ok();
     check(read)?;
     let mut short = grades_of(rt.alloc(), old, 255)?;
     let read = session.load::<Span>(b"run 5", short.as_mut_slice()).is_ok();

@@ -26,10 +26,12 @@ fn is_text<G: Written>(heap: Global, bytes: &[u8]) -> Result<bool, AllocError> {
         *b = b'#';
     }
     let end = grade.write(out.as_mut_slice(), 0);
-    Ok(len == bytes.len()
-        && grade.room_after(bytes.len()) == Some(0)
-        && end == Some(len)
-        && same_word(out.as_slice(), bytes))
+    Ok(
+        len == bytes.len()
+            && grade.room_after(bytes.len()) == Some(0)
+            && end == Some(len)
+            && same_word(out.as_slice(), bytes),
+    )
 }
 
 #[test]
@@ -61,5 +63,8 @@ fn loads(rt: LibcRuntime) -> Result<(), Fail> {
     check(outcome::<Level>(heap, b"input a {1..1} run a")? == (6, 8))?;
     check(outcome::<Pair<Span, Level>>(heap, b"input a {1..1|public} run a")? == (0, 0))?;
     check(outcome::<Pair<Span, Level>>(heap, b"input a {1..1} run a")? == (6, 8))?;
-    check(outcome::<Pair<Pair<Span, Level>, Span>>(heap, b"input a {1..1|public|0..*} run a")? == (0, 0))
+    check(
+        outcome::<Pair<Pair<Span, Level>, Span>>(heap, b"input a {1..1|public|0..*} run a")?
+            == (0, 0),
+    )
 }

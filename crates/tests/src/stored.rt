@@ -69,7 +69,12 @@ fn parts_in_order(rt: LibcRuntime) -> Result<(), Fail> {
     check_eq(number_at(&program, 3), Some(4))?;
     match program.nodes.get(4) {
         Some(node) => match node.term {
-            Term::Less { left, right, below, otherwise } => {
+            Term::Less {
+                left,
+                right,
+                below,
+                otherwise,
+            } => {
                 check(left == 0 && right == 1 && below == 2 && otherwise == 3)?;
                 check(node.place == 4)
             }
@@ -80,7 +85,13 @@ fn parts_in_order(rt: LibcRuntime) -> Result<(), Fail> {
 }
 
 // Checks the place, the length and the grade of a binder.
-fn expect_binder(program: &Program, i: usize, place: usize, len: usize, grade: usize) -> Result<(), Fail> {
+fn expect_binder(
+    program: &Program,
+    i: usize,
+    place: usize,
+    len: usize,
+    grade: usize,
+) -> Result<(), Fail> {
     match program.binders.get(i) {
         Some(binder) => check(binder.place == place && binder.len == len && binder.grade == grade),
         None => Err(Fail::new("no binder")),
@@ -90,7 +101,10 @@ fn expect_binder(program: &Program, i: usize, place: usize, len: usize, grade: u
 // The inputs come first, then the functions' binders.
 #[test]
 fn binders(rt: LibcRuntime) -> Result<(), Fail> {
-    let program = program_of(rt.alloc(), b"input old input new {2..2} run fn x to {1..1} num num 5")?;
+    let program = program_of(
+        rt.alloc(),
+        b"input old input new {2..2} run fn x to {1..1} num num 5",
+    )?;
     check(program.inputs == 2 && program.grades == 4 && program.words == 5)?;
     check_eq(program.binders.len(), 3)?;
     check_eq(program.types.len(), 3)?;

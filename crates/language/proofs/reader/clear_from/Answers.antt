@@ -11,8 +11,8 @@ pub loop-i-again : need.loop-i-again
 loop-i-again g c = (
   omega arith,
   ap (set (c .loop-i .grades) (c .loop-i .i)) (c .zero .ensures)
-  ∙ ap (λ l. set l (c .loop-i .i) (g .G·Algebra .nil)) (c .loop-i .inv .1)
-  ∙ upto-more (g .G·Algebra .nil) (c .args .from) (c .args .grades .now) (c .loop-i .i) (c .loop-i .kept .i) (c .loop-i-test .taken),
+      ∙ ap (λ l. set l (c .loop-i .i) (g .G·Algebra .nil)) (c .loop-i .inv .1)
+      ∙ upto-more (g .G·Algebra .nil) (c .args .from) (c .args .grades .now) (c .loop-i .i) (c .loop-i .kept .i) (c .loop-i-test .taken),
 )
 
 pub returns : need.returns

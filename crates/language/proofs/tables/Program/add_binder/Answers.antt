@@ -16,6 +16,31 @@ ghost-self c =
     let s = c .args .self .now in
     let items = c .push-reserved .ensures .items in
     let longer = ap length items in
-    let more = length-push (vec-items (s .binders)) (c .args .binder) in
-    (search needs, (s .troom, (s .nroom, (s .counted, (omega arith, (omega arith, (s .inputsfew, (s .gradesfew, (s .wordsfew,
-    (subst (Binders-sound (s .grades)) (sym items) (binders-push _ _ _ (s .bsound) (c .pre .fits)), (s .tsound, (nodes-more (length (vec-items (s .binders))) _ (length (vec-items (s .types))) _ (vec-items (s .nodes)) (omega arith) (omega arith) (s .nsound), tt))))))))))))
+    let more = length-push (vec-items (s .binders)) (c .args .binder) in (
+      search needs,
+      (
+        s .troom,
+        (
+          s .nroom,
+          (
+            s .counted,
+            (
+              omega arith,
+              (
+                omega arith,
+                (
+                  s .inputsfew,
+                  (
+                    s .gradesfew,
+                    (
+                      s .wordsfew,
+                      (subst (Binders-sound (s .grades)) (sym items) (binders-push _ _ _ (s .bsound) (c .pre .fits)), (s .tsound, (nodes-more (length (vec-items (s .binders))) _ (length (vec-items (s .types))) _ (vec-items (s .nodes)) (omega arith) (omega arith) (s .nsound), tt))),
+                    ),
+                  ),
+                ),
+              ),
+            ),
+          ),
+        ),
+      ),
+    )

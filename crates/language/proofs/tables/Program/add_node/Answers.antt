@@ -16,6 +16,31 @@ ghost-self c =
     let s = c .args .self .now in
     let items = c .push-reserved .ensures .items in
     let longer = ap length items in
-    let more = length-push (vec-items (s .nodes)) (c .args .node) in
-    (s .broom, (s .troom, (search needs, (omega arith, (s .named, (s .declared, (s .inputsfew, (s .gradesfew, (s .wordsfew,
-    (s .bsound, (s .tsound, (subst (Nodes-sound (length (vec-items (s .binders))) (length (vec-items (s .types)))) (sym items) (nodes-push _ _ _ _ (s .nsound) (term-fits (tables-of s) _ (c .pre .fits))), tt))))))))))))
+    let more = length-push (vec-items (s .nodes)) (c .args .node) in (
+      s .broom,
+      (
+        s .troom,
+        (
+          search needs,
+          (
+            omega arith,
+            (
+              s .named,
+              (
+                s .declared,
+                (
+                  s .inputsfew,
+                  (
+                    s .gradesfew,
+                    (
+                      s .wordsfew,
+                      (s .bsound, (s .tsound, (subst (Nodes-sound (length (vec-items (s .binders))) (length (vec-items (s .types)))) (sym items) (nodes-push _ _ _ _ (s .nsound) (term-fits (tables-of s) _ (c .pre .fits))), tt))),
+                    ),
+                  ),
+                ),
+              ),
+            ),
+          ),
+        ),
+      ),
+    )

@@ -16,6 +16,31 @@ ghost-self c =
     let s = c .args .self .now in
     let items = c .push-reserved .ensures .items in
     let longer = ap length items in
-    let more = length-push (vec-items (s .types)) (c .args .simple) in
-    (s .broom, (search needs, (s .nroom, (omega arith, (s .named, (s .declared, (s .inputsfew, (s .gradesfew, (s .wordsfew,
-    (s .bsound, (subst (Types-sound (s .grades)) (sym items) (types-push _ _ _ (s .tsound) (type-fits (tables-of s) _ (c .pre .fits))), (nodes-more (length (vec-items (s .binders))) _ (length (vec-items (s .types))) _ (vec-items (s .nodes)) (omega arith) (omega arith) (s .nsound), tt))))))))))))
+    let more = length-push (vec-items (s .types)) (c .args .simple) in (
+      s .broom,
+      (
+        search needs,
+        (
+          s .nroom,
+          (
+            omega arith,
+            (
+              s .named,
+              (
+                s .declared,
+                (
+                  s .inputsfew,
+                  (
+                    s .gradesfew,
+                    (
+                      s .wordsfew,
+                      (s .bsound, (subst (Types-sound (s .grades)) (sym items) (types-push _ _ _ (s .tsound) (type-fits (tables-of s) _ (c .pre .fits))), (nodes-more (length (vec-items (s .binders))) _ (length (vec-items (s .types))) _ (vec-items (s .nodes)) (omega arith) (omega arith) (s .nsound), tt))),
+                    ),
+                  ),
+                ),
+              ),
+            ),
+          ),
+        ),
+      ),
+    )
