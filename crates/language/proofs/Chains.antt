@@ -11,7 +11,7 @@ use Rattle.std.specs.declared.option.Option.{Option}
 use Rattle.std.specs.declared.result.Result.{Result}
 use Rattle.std.specs.declared.result.Result.the-variants.{Ok, Err}
 use Rattle.std.proofs.shelf.Results.{err-from-errBy}
-use Rattle.language.specs.declared.refusal.Fault.{Fault}
+use Rattle.tokens.specs.declared.refusal.Fault.{Fault}
 use Rattle.language.specs.declared.program.SimpleType.{SimpleType}
 use Rattle.language.specs.declared.program.SimpleType.the-variants.{Num, To}
 use Rattle.language.specs.declared.program.Term.{Term}
@@ -24,7 +24,7 @@ use Rattle.language.specs.declared.heads.TermHead.{TermHead}
 use Rattle.language.specs.declared.heads.TermHead.the-variants as heads
 use Rattle.language.specs.declared.heads.RuleHead.{RuleHead}
 use Rattle.language.specs.declared.heads.RuleHead.the-variants as rule-heads
-use Rattle.language.specs.Tokens.{Lexed, token-at}
+use Rattle.tokens.specs.Tokens.{Lexed, token-at}
 use Rattle.language.specs.Reading.{told, _then_, State, Read, Tables, state, Bound, bound, changed, with-binder, with-type, with-node, binder, binder-grade, name-of, type-head, type-rest, type-by, type-inside, simple-type, counted, grade-of, graded, parsed, formed, store-type, store-term, term-head, term-parts, term-inside, term, rule-head, rule-rest, input, rule, with-input, no-tables, text-read, zeros-from, left-by, program-read}
 
 -- a reading that succeeded goes on, and one that failed ends the chain

@@ -1,12 +1,4 @@
-pub mod Refusals
-pub mod Keywords
 pub mod Scopes
-pub mod Tokens
 pub mod Tables
 pub mod Reading
 pub mod Growth
-pub mod Syntax
-pub mod Grammar
-pub mod Storing
-pub mod Recovering
-pub mod Sentences

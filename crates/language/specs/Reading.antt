@@ -11,10 +11,10 @@ use Rattle.std.specs.declared.option.Option.{Option}
 use Rattle.std.specs.declared.option.Option.the-variants.{Some, None}
 use Rattle.std.specs.declared.result.Result.{Result}
 use Rattle.std.specs.declared.result.Result.the-variants.{Ok, Err}
-use Rattle.language.specs.declared.refusal.Fault.{Fault}
-use Rattle.language.specs.declared.refusal.Refusal.the-variants.{ShortList, NoText, LongText, Unexpected, NotOpen, Limit}
-use Rattle.language.specs.declared.keyword.Keyword.{Keyword}
-use Rattle.language.specs.declared.keyword.Keyword.the-variants as keywords
+use Rattle.tokens.specs.declared.refusal.Fault.{Fault}
+use Rattle.tokens.specs.declared.refusal.Refusal.the-variants.{ShortList, NoText, LongText, Unexpected, NotOpen, Limit}
+use Rattle.tokens.specs.declared.keyword.Keyword.{Keyword}
+use Rattle.tokens.specs.declared.keyword.Keyword.the-variants as keywords
 use Rattle.language.specs.declared.program.Binder.{Binder}
 use Rattle.language.specs.declared.program.SimpleType.{SimpleType}
 use Rattle.language.specs.declared.program.SimpleType.the-variants.{Num, To}
@@ -33,9 +33,9 @@ use Rattle.language.specs.declared.heads.RuleHead.the-variants as rule-heads
 use Rattle.language.specs.declared.heads.Parsed.{Parsed}
 use Rattle.language.specs.declared.heads.Formed.{Formed}
 use Rattle.language.specs.declared.reader.Bound as reader
-use Rattle.language.specs.Keywords.{keyword-of}
+use Rattle.tokens.specs.Keywords.{keyword-of}
 use Rattle.language.specs.Scopes.{find}
-use Rattle.language.specs.Tokens.{Lexeme, word, number, grade, end, Lexed, fault, token-at}
+use Rattle.tokens.specs.Tokens.{Lexeme, word, number, grade, end, Lexed, fault, token-at}
 
 -- the tables of a program: its binders, types and terms, the number of its inputs and grades, and the words counted
 pub record Tables : Type 0 where

@@ -3,7 +3,7 @@ ghost use mathlib.Core.Path.{_≡_};
 ghost use mathlib.Core.List.{[], _∷_};
 ghost use Prim.Native.Nat.{_+_, _<_, _≤_};
 ghost use Rattle.language.specs.Scopes.{open-names, find};
-use crate::keyword::same_word;
+use tokens::same_word;
 
 // The open binders' names, the outermost first: at most eight inputs, and a function around each term of depth 2 to 24.
 #[derive(Clone, Copy)]

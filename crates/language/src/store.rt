@@ -8,11 +8,11 @@ ghost use Rattle.language.specs.Growth.{Type-fits, Term-fits};
 use crate::program::Binder;
 use crate::program::Node;
 use crate::program::SimpleType;
-use crate::refusal::Fault;
-use crate::refusal::Refusal;
 use crate::tables::Program;
 use std::alloc::AllocError;
 use std::alloc::Global;
+use tokens::Fault;
+use tokens::Refusal;
 
 // The most binders, and the most term and type words.
 const MOST_BINDERS: usize = 520;

@@ -15,7 +15,7 @@ use Rattle.std.specs.declared.option.Option.the-variants.{Some, None}
 use Rattle.std.specs.declared.result.Result.{Result}
 use Rattle.std.specs.declared.result.Result.the-variants.{Ok, Err}
 use Rattle.language.specs.declared.program.Binder.{Binder}
-use Rattle.language.specs.declared.refusal.Fault.{Fault}
+use Rattle.tokens.specs.declared.refusal.Fault.{Fault}
 use Rattle.language.specs.Tables.{no-binder}
 use Rattle.session.specs.Sessions.{Model, no-rule, input-at}
 use Rattle.rulesheet.specs.Listings.{refusal-line, input-line, input-lines, read-lines, listing}

@@ -7,8 +7,8 @@ use Rattle.std.specs.Written.{decimal}
 use Rattle.std.specs.declared.result.Result.{Result}
 use Rattle.std.specs.declared.result.Result.the-variants.{Ok, Err}
 use Rattle.language.specs.declared.program.Binder.{Binder}
-use Rattle.language.specs.declared.refusal.Fault.{Fault}
-use Rattle.language.specs.Refusals.{number-of}
+use Rattle.tokens.specs.declared.refusal.Fault.{Fault}
+use Rattle.tokens.specs.Refusals.{number-of}
 use Rattle.language.specs.Tables.{no-binder}
 use Rattle.session.specs.Sessions.{Model}
 

@@ -1,30 +1,21 @@
 -- The numbers that a line writes. Assumes nothing.
 use mathlib.Core.Bool.{Bool, true, false, cond, _||_}
 use mathlib.Core.List.{List, [], _∷_, _++_}
-use Prim.Native.Nat.{ℕ, zero, suc}
+use Prim.Native.Nat.{ℕ}
 use lib.Dec.{eqb}
-use lib.IntN.{ℤ, pos, negsuc}
+use lib.IntN.{ℤ}
 use lib.ListN.{getD, drop}
 use Rattle.std.specs.declared.option.Option.{Option}
 use Rattle.std.specs.declared.option.Option.the-variants.{Some, None}
-use Rattle.text.specs.Decimals.{decimal-upto}
+use Rattle.text.specs.Decimals.{integer-of}
 
 -- a space or a carriage return
 abbrev pub blank : ℕ → Bool
 blank b = eqb b 32 || eqb b 13
 
-abbrev pub negative : Option ℕ → Option ℤ
-negative None = None
-negative (Some zero) = None
-negative (Some (suc n)) = Some (negsuc n)
-
-abbrev pub natural : Option ℕ → Option ℤ
-natural None = None
-natural (Some n) = Some (pos n)
-
 -- the number of 32 bits that a word writes: digits, `-` before them or not, no leading zero and no `-0`
 abbrev pub reading : List ℕ → Option ℤ
-reading w = cond (eqb (getD w 0 0) 45) (negative (decimal-upto (drop 1 w) 2147483648)) (natural (decimal-upto w 2147483647))
+reading w = cond (eqb (getD w 0 0) 45) (integer-of (drop 1 w) true) (integer-of w false)
 
 -- whether a word is a number, and the numbers with it behind them; no byte adds none
 abbrev pub added-number : List ℤ → Option ℤ → Bool × List ℤ

@@ -1,7 +1,7 @@
 // The kinds of grades that the program knows by name.
 ghost use mathlib.Core.Path.{_≡_};
 ghost use Rattle.rulesheet.specs.Kinds.{kind-of};
-use language::keyword::same_word;
+use tokens::same_word;
 
 #[derive(Clone, Copy)]
 pub enum Kind {

@@ -8,11 +8,11 @@ ghost use Rattle.session.specs.Sessions.{loaded, no-rule, model-of};
 ghost use Rattle.rulesheet.specs.Listings.{refusal-line, input-line, read-lines, listing};
 use grades::Written;
 use language::Binder;
-use language::Fault;
 use session::Session;
 use session::load::GRADES;
 use std::alloc::AllocError;
 use std::alloc::Global;
+use tokens::Fault;
 
 fn refusal_printed(heap: Global, fault: Fault) -> Result<Vec<u8>, AllocError>
     ensures { λ r. ⌜ made r (λ v. vec-items v ≡ refusal-line fault) ⌝ }

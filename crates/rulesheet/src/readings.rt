@@ -1,20 +1,12 @@
 // A line of readings: numbers in decimal with blanks between.
 ghost use mathlib.Core.Path.{_≡_};
-ghost use Prim.Native.Nat.{_-_, _≤_, _<_};
-ghost use lib.IntN.{negsuc};
-ghost use Rattle.std.specs.Options.{mapped};
 ghost use Rattle.std.specs.Of.Vec.{vec-items};
+ghost use Rattle.std.specs.Options.{mapped};
 ghost use Rattle.std.specs.Vec.{made};
-ghost use Rattle.text.specs.Decimals.{decimal-upto};
-ghost use Rattle.rulesheet.specs.Readings.{blank, negative, natural, reading, added, readings};
+ghost use Rattle.rulesheet.specs.Readings.{blank, reading, added, readings};
 use std::alloc::AllocError;
 use std::alloc::Global;
-use text::decimal;
-
-// The greatest reading, and how far below zero the least one is.
-const GREATEST: u32 = 2_147_483_647;
-
-const LEAST_NEGATED: u32 = 2_147_483_648;
+use text::integer;
 
 fn is_blank(b: u8) -> bool
     ensures { λ r. ⌜ r ≡ blank b ⌝ }
@@ -22,42 +14,14 @@ fn is_blank(b: u8) -> bool
     b == b' ' || b == b'\r'
 }
 
-// The number `-n`.
-fn negated(n: u32) -> i32
-    requires { ⌜ 0 < n ⌝ ∗ ⌜ n ≤ 2147483648 ⌝ }
-    ensures { λ r. ⌜ r ≡ negsuc (n - 1) ⌝ }
-{
-    (-i64::from(n)) as i32
-}
-
-// The number that the digits after a `-` write, which is not zero.
-fn negative_of(digits: &[u8]) -> Option<i32>
-    ensures { λ r. ⌜ r ≡ negative (decimal-upto (now (digits .entry)) 2147483648) ⌝ }
-{
-    match decimal(digits, LEAST_NEGATED) {
-        Some(n) if n > 0 => Some(negated(n)),
-        _ => None,
-    }
-}
-
-// The number that digits write.
-fn natural_of(digits: &[u8]) -> Option<i32>
-    ensures { λ r. ⌜ r ≡ natural (decimal-upto (now (digits .entry)) 2147483647) ⌝ }
-{
-    match decimal(digits, GREATEST) {
-        Some(n) => Some(n as i32),
-        None => None,
-    }
-}
-
 // The number that a word writes.
 fn reading_of(word: &[u8]) -> Option<i32>
     ensures { λ r. ⌜ r ≡ reading (now (word .entry)) ⌝ }
 {
     if !word.is_empty() && word[0] == b'-' {
-        negative_of(&word[1..])
+        integer(&word[1..], true)
     } else {
-        natural_of(word)
+        integer(word, false)
     }
 }
 

@@ -7,9 +7,9 @@ use Rattle.std.proofs.shelf.Tests.{cond-true, cond-false, lt-ltb, le-ltb}
 use Rattle.std.specs.declared.option.Option.{Option}
 use Rattle.std.specs.declared.result.Result.{Result}
 use Rattle.std.specs.declared.result.Result.the-variants.{Err}
-use Rattle.language.specs.declared.refusal.Fault.{Fault}
-use Rattle.language.specs.declared.refusal.Refusal.the-variants.{ShortList}
-use Rattle.language.specs.Tokens.{fault}
+use Rattle.tokens.specs.declared.refusal.Fault.{Fault}
+use Rattle.tokens.specs.declared.refusal.Refusal.the-variants.{ShortList}
+use Rattle.tokens.specs.Tokens.{fault}
 use Rattle.language.specs.Reading.{Tables, program-read}
 use Rattle.session.specs.Sessions.{Model, with-rule, loaded}
 

@@ -8,10 +8,10 @@ use Rattle.std.specs.declared.option.Option.{Option}
 use Rattle.std.specs.declared.option.Option.the-variants.{Some, None}
 use Rattle.std.specs.declared.result.Result.{Result}
 use Rattle.std.specs.declared.result.Result.the-variants.{Ok, Err}
-use Rattle.language.specs.declared.refusal.Fault.{Fault}
-use Rattle.language.specs.declared.refusal.Refusal.the-variants.{ShortList}
+use Rattle.tokens.specs.declared.refusal.Fault.{Fault}
+use Rattle.tokens.specs.declared.refusal.Refusal.the-variants.{ShortList}
 use Rattle.language.specs.declared.program.Binder.{Binder}
-use Rattle.language.specs.Tokens.{fault}
+use Rattle.tokens.specs.Tokens.{fault}
 use Rattle.language.specs.Tables.{no-binder}
 use Rattle.language.specs.Reading.{Tables, no-tables, tables-of, text-read, left-by}
 use Rattle.session.specs.declared.phase.Phase.{Phase}

@@ -1,18 +1,18 @@
 // Making a session, loading a rule, and looking at its inputs.
 ghost use mathlib.Core.Path.{_≡_};
 ghost use Rattle.std.specs.Vec.{made};
-ghost use Rattle.language.specs.Sentences.{Exact};
+ghost use Rattle.grammar.specs.Sentences.{Exact};
 ghost use Rattle.session.specs.Sessions.{model-of, no-rule, loaded, input-at};
 use crate::phase::Phase;
 use crate::state::Session;
 use grades::Written;
 use language::Binder;
-use language::Fault;
 use language::Program;
-use language::Refusal;
 use language::read_program;
 use std::alloc::AllocError;
 use std::alloc::Global;
+use tokens::Fault;
+use tokens::Refusal;
 
 // How many grades the grade list has room for.
 pub const GRADES: usize = 256;

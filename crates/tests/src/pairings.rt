@@ -11,10 +11,10 @@ use grades::Span;
 use grades::SpanAlgebra;
 use grades::SpanWritten;
 use grades::Written;
-use language::keyword::same_word;
 use std::alloc::AllocError;
 use std::alloc::Global;
 use std::test::*;
+use tokens::same_word;
 
 // Whether the bytes are the text of a grade: read whole, and written again as they are.
 fn is_text<G: Written>(heap: Global, bytes: &[u8]) -> Result<bool, AllocError> {

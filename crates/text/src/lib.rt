@@ -4,6 +4,7 @@ pub mod put;
 pub mod scan;
 
 pub use numeral::decimal;
+pub use numeral::integer;
 pub use put::put_bytes;
 pub use put::put_decimal;
 pub use put::room_after;

@@ -2,7 +2,7 @@ use mathlib.Core.Path.{sym, ap, _∙_}
 use borrow.Author.Needs.{needs}
 use Rattle.std.specs.declared.result.Result.the-variants.{Ok, Err}
 use Rattle.language.specs.Reading.{tables-of}
-use Rattle.language.proofs.Theorem.{exact}
+use Rattle.grammar.proofs.Theorem.{exact}
 use Rattle.session.specs.Sessions.{model-of}
 use Rattle.session.proofs.Loads.{loaded-short, loaded-from}
 use Rattle.session.proofs.state.Session.load.Needs as need

@@ -1,0 +1,12 @@
+pub mod Beginnings
+pub mod Unique
+pub mod Sizes
+pub mod Complete
+pub mod SoundTypes
+pub mod SoundTerms
+pub mod SoundRules
+pub mod Extends
+pub mod Recovery
+pub mod Spelling
+pub mod Recovered
+pub mod Theorem

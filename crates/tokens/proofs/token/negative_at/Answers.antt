@@ -1,0 +1,11 @@
+use Prim.Native.Nat.{_+_}
+use native.Mathlib.Omega.{arith}
+use Rattle.text.specs.declared.scan.Class.the-variants.{Digit, Wordy}
+use Rattle.tokens.proofs.Tokens.{run-within}
+use Rattle.tokens.proofs.token.negative_at.Needs as need
+
+pub part-integer-end : need.part-integer-end
+part-integer-end g c = omega (arith, run-within Digit (c .args .text .now) (c .args .place + 1) (omega arith))
+
+pub part-result-end : need.part-result-end
+part-result-end g c = omega (arith, run-within Digit (c .args .text .now) (c .args .place + 1) (omega arith))
