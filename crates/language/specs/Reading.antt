@@ -272,7 +272,7 @@ module _ {G : Type 0} (reading : List ℕ → Option (G × ℕ)) (text : List �
       counted depth (t .place) (s .program) then λ (_, p).
       type-rest part h (t .next) (state p (s .list))
 
-  -- no part is read where no depth is left
+  -- no part is read where no depth is left: `counted` has refused the word before its parts are asked for
   abbrev pub too-deep : ℕ → State G → Read G Parsed
   too-deep at s = Err (fault Limit at)
 
