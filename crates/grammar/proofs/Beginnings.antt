@@ -1,11 +1,10 @@
 -- What begins a part, by the grammar and by the reader; and readings that succeeded, taken apart. Assumes nothing.
 use mathlib.Core.Path.{_≡_, refl, sym, ap, subst, _∙_}
 use mathlib.Core.Bool.{Bool, true, false, cond, _||_}
-use mathlib.Core.List.{List, [], _∷_}
-use Prim.Native.Nat.{ℕ, zero, suc, _+_, _-_, _<_, _≤_}
+use mathlib.Core.List.{List, _∷_}
+use Prim.Native.Nat.{ℕ, _+_, _-_, _<_, _≤_}
 use native.Mathlib.Omega.{arith}
-use lib.Dec.{leb, eqb}
-use Rattle.std.proofs.shelf.Tests.{cond-true, cond-false, or-from, or-parts, ne-eqb, lt-leb, leb-false, eqb-false, eq-eqb, le-leb, or-left, or-right}
+use Rattle.std.proofs.shelf.Tests.{cond-false, or-from, or-parts, ne-eqb, lt-leb, leb-false, eqb-false}
 use Rattle.std.specs.declared.option.Option.{Option}
 use Rattle.std.specs.declared.option.Option.the-variants.{Some, None}
 use Rattle.std.specs.declared.result.Result.{Result}
@@ -21,8 +20,8 @@ use Rattle.language.specs.declared.heads.RuleHead.{RuleHead}
 use Rattle.language.specs.declared.heads.RuleHead.the-variants as rule-heads
 use Rattle.tokens.specs.Keywords.{keyword-of}
 use Rattle.language.specs.Scopes.{find}
-use Rattle.tokens.specs.Tokens.{Lexeme, word, number, grade, end, Lexed, token-at}
-use Rattle.language.specs.Reading.{_then_, State, state, Tables, with-word, with-grade, counted, graded, name-of, unless-keyword, type-head, type-word, term-head, term-word, open-name, rule-head, rule-word, grade-of, ended}
+use Rattle.tokens.specs.Tokens.{Lexeme, word, number, grade, end}
+use Rattle.language.specs.Reading.{_then_, State, Tables, with-word, counted, graded, name-of, unless-keyword, type-head, type-word, term-head, term-word, open-name, rule-head, rule-word, grade-of, ended}
 use Rattle.grammar.specs.Grammar.{Begins, by-name, by-number, by-fn, by-call, by-add, by-sub, by-half, by-less}
 use Rattle.grammar.specs.Storing.{keep-grade}
 

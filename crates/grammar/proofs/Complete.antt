@@ -1,13 +1,11 @@
 -- Every sentence within the limits is read, and stored as its rule is. Assumes nothing.
 use mathlib.Core.Path.{_≡_, refl, sym, ap, subst, _∙_}
 use mathlib.Core.List.{List, [], _∷_}
-use Prim.Native.Nat.{ℕ, zero, suc, _+_, _-_, max, _<_, _≤_}
+use Prim.Native.Nat.{ℕ, _+_, _-_, _<_, _≤_}
 use native.Mathlib.Omega.{arith}
-use lib.ListN.{length}
 use Rattle.std.specs.declared.option.Option.{Option}
-use Rattle.std.specs.declared.option.Option.the-variants.{Some, None}
 use Rattle.std.specs.declared.result.Result.{Result}
-use Rattle.std.specs.declared.result.Result.the-variants.{Ok, Err}
+use Rattle.std.specs.declared.result.Result.the-variants.{Ok}
 use Rattle.language.specs.declared.program.Term.the-variants.{Fn}
 use Rattle.tokens.specs.declared.keyword.Keyword.the-variants as keywords
 use Rattle.language.specs.declared.heads.Parsed.{Parsed}
@@ -15,14 +13,13 @@ use Rattle.language.specs.declared.heads.TypeHead.the-variants as type-heads
 use Rattle.language.specs.declared.heads.TermHead.{TermHead}
 use Rattle.language.specs.declared.heads.TermHead.the-variants as heads
 use Rattle.language.specs.declared.heads.RuleHead.the-variants as rule-heads
-use Rattle.tokens.specs.Keywords.{keyword-of}
 use Rattle.tokens.specs.Tokens.{Lexeme, word, number, grade, end, Lexed, token-at}
-use Rattle.language.specs.Reading.{_then_, State, state, Read, Tables, changed, with-word, with-binder, parsed, formed, graded, grade-or, grade-of, binder-grade, binder, Bound, bound, simple-type, store-type, term, term-parts, store-term, rule, ended}
-use Rattle.grammar.specs.Syntax.{Label, Ty, num, to, Tm, name, literal, fn, binary, half, less, Rule, input, run, type-words, type-grades, type-depth, term-words, term-grades, term-depth, rule-inputs, rule-grades, run-of}
-use Rattle.grammar.specs.Grammar.{Lexes, none, more, Solid, Begins, Ungraded, No-grade, label, BinderIn, graded as written, bare, TypeIn, num-type, function-type, TermIn, begun, PartsIn, name-parts, literal-parts, fn-parts, binary-parts, half-parts, less-parts, RuleIn, input-rule, run-rule}
-use Rattle.grammar.specs.Storing.{keep-grade, keep-type, keep-node, entry, place-of, typed, parted, termed, ruled}
+use Rattle.language.specs.Reading.{_then_, State, Read, changed, with-word, with-binder, parsed, formed, graded, grade-or, grade-of, binder-grade, binder, bound, simple-type, term, term-parts, store-term, rule, ended}
+use Rattle.grammar.specs.Syntax.{Label, Ty, Tm, Rule, run, type-words, type-grades, type-depth, term-words, term-grades, term-depth, rule-inputs, rule-grades, run-of}
+use Rattle.grammar.specs.Grammar.{Lexes, none, more, Ungraded, No-grade, BinderIn, graded as written, bare, TypeIn, num-type, function-type, TermIn, begun, PartsIn, name-parts, literal-parts, fn-parts, binary-parts, half-parts, less-parts, RuleIn, input-rule, run-rule}
+use Rattle.grammar.specs.Storing.{keep-grade, entry, place-of, typed, parted, termed, ruled}
 use Rattle.grammar.proofs.Beginnings.{head-of, name-is, type-is, rule-is, counted-is, graded-is}
-use Rattle.grammar.proofs.Sizes.{typed-words, typed-grades, termed-words, termed-grades, type-some, term-some}
+use Rattle.grammar.proofs.Sizes.{typed-words, typed-grades, termed-words, termed-grades, term-some}
 use Rattle.language.proofs.Chains.{goes-on, type-begun, arrow-parts, term-begun, fn-begun, input-begun}
 
 -- the token after a bare binder

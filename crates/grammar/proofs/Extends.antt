@@ -4,15 +4,15 @@ use mathlib.Core.Logic.{_≢_}
 use mathlib.Core.List.{List, [], _∷_, _++_, append-assoc, append-nil}
 use Prim.Native.Nat.{ℕ, _+_, _<_, _≤_}
 use native.Mathlib.Omega.{arith}
-use lib.ListN.{length, getD, set}
-use Rattle.std.proofs.shelf.Lists.{length-push, length-append, length-set, getD-set-same, getD-set-other}
+use lib.ListN.{length, getD}
+use Rattle.std.proofs.shelf.Lists.{length-push, length-set, getD-set-same, getD-set-other}
 use Rattle.language.specs.declared.program.Binder.{Binder}
 use Rattle.language.specs.declared.program.SimpleType.{SimpleType}
 use Rattle.language.specs.declared.program.Term.{Term}
 use Rattle.language.specs.declared.program.Node.{Node}
 use Rattle.language.specs.Reading.{State, changed, with-word, with-binder, with-input}
-use Rattle.grammar.specs.Syntax.{Label, Ty, num, to, Tm, name, literal, fn, binary, half, less, Rule, input, run}
-use Rattle.grammar.specs.Storing.{keep-grade, keep-type, keep-node, entry, place-of, typed, parted, termed, ruled}
+use Rattle.grammar.specs.Syntax.{Ty, num, to, Tm, name, literal, fn, binary, half, less}
+use Rattle.grammar.specs.Storing.{keep-grade, keep-type, keep-node, entry, place-of, typed, parted, termed}
 
 pushed-there : {X : Type 0} (xs : List X) (x : X) → length xs < length (xs ++ (x ∷ []))
 pushed-there xs x = omega (arith, length-push xs x)

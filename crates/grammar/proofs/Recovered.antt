@@ -1,5 +1,5 @@
 -- The rule that was stored is the rule that stands in the tables. Assumes nothing.
-use mathlib.Core.Path.{_≡_, refl, sym, ap, subst, _∙_}
+use mathlib.Core.Path.{_≡_, refl, sym, ap, _∙_}
 use mathlib.Core.List.{List, [], _∷_, _++_}
 use Prim.Native.Nat.{ℕ, _+_, _≤_}
 use native.Mathlib.Omega.{arith}
@@ -8,11 +8,11 @@ use Rattle.std.proofs.shelf.Lists.{length-push, take-at}
 use Rattle.language.specs.declared.program.Binder.{Binder}
 use Rattle.language.specs.declared.program.Node.{Node}
 use Rattle.language.specs.Reading.{State, changed, with-word, with-binder, with-input}
-use Rattle.grammar.specs.Syntax.{Label, Ty, num, to, Tm, name, literal, fn, binary, half, less, Rule, input, run}
-use Rattle.grammar.specs.Storing.{keep-grade, keep-node, entry, place-of, typed, parted, termed, ruled}
-use Rattle.grammar.specs.Recovering.{grow, label-of, no-term, types-in, form, terms-in, last-of, inputs-in, rule-in}
-use Rattle.grammar.proofs.Extends.{Extends, itself, further, by-grade, by-node, by-input, by-termed, grade-kept}
-use Rattle.grammar.proofs.Recovery.{grow-append, Spelled-at, Spelled, All-spelled, parts-held}
+use Rattle.grammar.specs.Syntax.{Ty, num, to, Tm, name, literal, fn, binary, half, less, Rule, input, run}
+use Rattle.grammar.specs.Storing.{keep-grade, entry, place-of, typed, parted, termed, ruled}
+use Rattle.grammar.specs.Recovering.{grow, label-of, types-in, form, terms-in, last-of, inputs-in, rule-in}
+use Rattle.grammar.proofs.Extends.{Extends, further, by-grade, by-node, by-input, by-termed, grade-kept}
+use Rattle.grammar.proofs.Recovery.{grow-append, Spelled, All-spelled, parts-held}
 
 module _ {G : Type 0} where
   by-ruled : (r : Rule G) (s : State G) → Extends s (ruled r s)

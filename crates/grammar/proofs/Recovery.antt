@@ -1,11 +1,11 @@
 -- What is stored can be recovered. Assumes nothing.
-use mathlib.Core.Path.{_≡_, refl, sym, ap, subst, _∙_}
+use mathlib.Core.Path.{_≡_, refl, sym, ap, _∙_}
 use mathlib.Core.Logic.{_≢_}
-use mathlib.Core.List.{List, [], _∷_, _++_, append-assoc, append-nil}
-use Prim.Native.Nat.{ℕ, zero, suc, _+_, _<_, _≤_}
+use mathlib.Core.List.{List, [], _∷_, _++_, append-assoc}
+use Prim.Native.Nat.{ℕ, _+_, _<_, _≤_}
 use native.Mathlib.Nat.{add-zero}
 use native.Mathlib.Omega.{arith}
-use lib.ListN.{length, getD, set}
+use lib.ListN.{length, getD}
 use Rattle.std.proofs.shelf.Lists.{length-push, length-append, getD-append-left, getD-at}
 use Rattle.language.specs.declared.program.Binder.{Binder}
 use Rattle.language.specs.declared.program.SimpleType.{SimpleType}
@@ -15,12 +15,12 @@ use Rattle.language.specs.declared.program.Node.{Node}
 use Rattle.language.specs.declared.heads.Binary.{Binary}
 use Rattle.language.specs.declared.heads.Binary.the-variants as binaries
 use Rattle.language.specs.Tables.{no-binder}
-use Rattle.language.specs.Reading.{State, changed, with-word, with-binder, with-input}
+use Rattle.language.specs.Reading.{State, changed, with-word, with-binder}
 use Rattle.language.specs.Reading as forms
 use Rattle.grammar.specs.Syntax.{Label, Ty, num, to, Tm, name, literal, fn, binary, half, less, Rule, input, run}
-use Rattle.grammar.specs.Storing.{keep-grade, keep-type, keep-node, entry, place-of, typed, parted, termed, ruled}
-use Rattle.grammar.specs.Recovering.{grow, label-of, no-term, type-entry, types-in, form, terms-in, last-of, inputs-in, rule-in}
-use Rattle.grammar.proofs.Extends.{Extends, as-is, itself, further, by-grade, by-type, by-node, by-binder, by-input, by-typed, by-parted, by-termed, grade-kept, typed-there, termed-there}
+use Rattle.grammar.specs.Storing.{keep-grade, keep-type, keep-node, entry, place-of, typed, parted, termed}
+use Rattle.grammar.specs.Recovering.{grow, label-of, no-term, type-entry, types-in, form, terms-in}
+use Rattle.grammar.proofs.Extends.{Extends, further, by-type, by-node, by-binder, by-typed, by-termed, grade-kept, typed-there, termed-there}
 
 -- a table that is grown entry by entry
 module _ {X Y : Type 0} (step : List Y → X → Y) where

@@ -3,7 +3,7 @@ use mathlib.Core.Path.{_≡_, refl}
 use Prim.Native.Nat.{ℕ, _+_, _-_, max, _<_, _≤_}
 use native.Mathlib.Omega.{arith}
 use Rattle.language.specs.Reading.{State, changed, with-word, with-binder, with-input}
-use Rattle.grammar.specs.Syntax.{Label, Ty, num, to, Tm, name, literal, fn, binary, half, less, Rule, input, run, rule-grades, run-of, type-words, type-grades, type-depth, term-words, term-grades, term-depth}
+use Rattle.grammar.specs.Syntax.{Ty, num, to, Tm, name, literal, fn, binary, half, less, Rule, input, run, rule-grades, run-of, type-words, type-grades, type-depth, term-words, term-grades, term-depth}
 use Rattle.grammar.specs.Storing.{keep-grade, keep-node, entry, place-of, typed, parted, termed, ruled}
 
 module _ {G : Type 0} where

@@ -1,17 +1,17 @@
 -- Rules that are read are rules of the grammar. Assumes nothing.
-use mathlib.Core.Path.{_≡_, refl, sym, ap, subst, _∙_}
+use mathlib.Core.Path.{_≡_, sym, ap, subst, _∙_}
 use mathlib.Core.List.{List, [], _∷_}
-use Prim.Native.Nat.{ℕ, zero, suc, _+_, _<_, _≤_, zero-le, suc-le-suc}
+use Prim.Native.Nat.{ℕ, zero, suc, _+_, _<_, _≤_, suc-le-suc}
 use native.Mathlib.Omega.{arith}
 use Rattle.std.specs.declared.option.Option.{Option}
 use Rattle.std.specs.declared.option.Option.the-variants.{Some}
-use Rattle.std.specs.declared.result.Result.the-variants.{Ok, Err}
+use Rattle.std.specs.declared.result.Result.the-variants.{Ok}
 use Rattle.language.specs.declared.heads.Parsed.{Parsed}
 use Rattle.language.specs.declared.heads.RuleHead.{RuleHead}
 use Rattle.language.specs.declared.heads.RuleHead.the-variants as rule-heads
 use Rattle.tokens.specs.Keywords.{keyword-of}
-use Rattle.tokens.specs.Tokens.{Lexeme, word, end, Lexed, token-at}
-use Rattle.language.specs.Reading.{_then_, State, Read, changed, with-input, Bound, binder, term, ended, rule-head, run-term, rule-rest, rule-by, rule}
+use Rattle.tokens.specs.Tokens.{word, end, Lexed, token-at}
+use Rattle.language.specs.Reading.{_then_, State, Read, changed, with-input, Bound, binder, term, ended, rule-head, rule-rest, rule-by, rule}
 use Rattle.language.specs.Reading as forms
 use Rattle.grammar.specs.Syntax.{Label, Rule, input, run, rule-inputs, run-of, term-depth}
 use Rattle.grammar.specs.Grammar.{Lexes, none, more, BinderIn, RuleIn, input-rule, run-rule}

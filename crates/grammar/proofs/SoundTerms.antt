@@ -1,27 +1,27 @@
 -- Terms that are read are terms of the grammar. Assumes nothing.
-use mathlib.Core.Path.{_≡_, refl, sym, ap, subst, _∙_}
-use mathlib.Core.List.{List, [], _∷_}
+use mathlib.Core.Path.{_≡_, sym, ap, subst, _∙_}
+use mathlib.Core.List.{List, _∷_}
 use Prim.Native.Nat.{ℕ, zero, suc, _+_, _-_, _<_, _≤_}
 use native.Mathlib.Omega.{arith}
 use lib.ListN.{length}
 use Rattle.std.specs.declared.option.Option.{Option}
-use Rattle.std.specs.declared.result.Result.the-variants.{Ok, Err}
+use Rattle.std.specs.declared.result.Result.the-variants.{Ok}
 use Rattle.language.specs.declared.program.Term.the-variants.{Fn, Half, Less}
 use Rattle.language.specs.declared.heads.Binary.{Binary}
 use Rattle.language.specs.declared.heads.Parsed.{Parsed}
 use Rattle.language.specs.declared.heads.Formed.{Formed}
 use Rattle.language.specs.declared.heads.TermHead.{TermHead}
 use Rattle.language.specs.declared.heads.TermHead.the-variants as heads
-use Rattle.tokens.specs.Tokens.{Lexeme, word, number, grade, end, Lexed, token-at}
-use Rattle.language.specs.Reading.{_then_, State, state, Read, Tables, changed, with-word, with-binder, counted, binder, Bound, type-inside, term-head, formed, term-parts, term-inside, term, store-term}
+use Rattle.tokens.specs.Tokens.{Lexeme, Lexed, token-at}
+use Rattle.language.specs.Reading.{_then_, State, state, Read, changed, with-word, with-binder, counted, binder, Bound, type-inside, term-head, formed, term-parts, term-inside, term, store-term}
 use Rattle.language.specs.Reading as forms
-use Rattle.grammar.specs.Syntax.{Label, Tm, name, literal, fn, binary, half, less, type-depth, term-depth}
+use Rattle.grammar.specs.Syntax.{Tm, name, literal, fn, binary, half, less, type-depth, term-depth}
 use Rattle.grammar.specs.Grammar.{Lexes, more, Solid, Begins, by-name, by-number, by-fn, by-call, by-add, by-sub, by-half, by-less, TermIn, begun, PartsIn, name-parts, literal-parts, fn-parts, binary-parts, half-parts, less-parts}
-use Rattle.grammar.specs.Storing.{keep-grade, keep-node, entry, place-of, typed, parted, termed}
+use Rattle.grammar.specs.Storing.{keep-grade, keep-node, entry, typed, parted, termed}
 use Rattle.grammar.proofs.Sizes.{deeper-one, deeper-two, deeper-four}
 use Rattle.grammar.proofs.Beginnings.{then-ok, ok-same, absurd-ok, begins-from, counted-from}
 use Rattle.grammar.proofs.Complete.{parts-place}
-use Rattle.grammar.proofs.SoundTypes.{one-more, Binder-read, binder-sound, Types-sound, Type-read, type-inside-sound}
+use Rattle.grammar.proofs.SoundTypes.{one-more, binder-sound, Types-sound, type-inside-sound}
 
 solid-begins : {G : Type 0} {scope : List (List ℕ)} {t : Lexeme G} {h : TermHead} → Begins scope t h → Solid t
 solid-begins (by-name e f) = tt

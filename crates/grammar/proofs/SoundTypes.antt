@@ -1,21 +1,20 @@
 -- Binders and types that are read are binders and types of the grammar. Assumes nothing.
 use mathlib.Core.Path.{_≡_, refl, sym, ap, subst, _∙_}
-use mathlib.Core.List.{List, [], _∷_}
-use Prim.Native.Nat.{ℕ, zero, suc, _+_, _-_, max, _<_, _≤_}
+use mathlib.Core.List.{List, _∷_}
+use Prim.Native.Nat.{ℕ, zero, suc, _+_, _-_, _<_, _≤_}
 use native.Mathlib.Omega.{arith}
 use lib.ListN.{length}
 use Rattle.std.specs.declared.option.Option.{Option}
 use Rattle.std.specs.declared.option.Option.the-variants.{Some, None}
 use Rattle.std.specs.declared.result.Result.{Result}
-use Rattle.std.specs.declared.result.Result.the-variants.{Ok, Err}
+use Rattle.std.specs.declared.result.Result.the-variants.{Ok}
 use Rattle.language.specs.declared.program.SimpleType.the-variants.{Num, To}
-use Rattle.language.specs.declared.program.Binder.{Binder}
 use Rattle.language.specs.declared.heads.Parsed.{Parsed}
 use Rattle.language.specs.declared.heads.TypeHead.{TypeHead}
 use Rattle.language.specs.declared.heads.TypeHead.the-variants as type-heads
 use Rattle.tokens.specs.Keywords.{keyword-of}
 use Rattle.tokens.specs.Tokens.{Lexeme, word, number, grade, end, Lexed, token-at}
-use Rattle.language.specs.Reading.{_then_, State, state, Read, Tables, changed, with-word, parsed, graded, grade-or, grade-of, binder-grade, binder, Bound, bound, name-of, type-head, counted, type-rest, type-inside, simple-type, store-type}
+use Rattle.language.specs.Reading.{_then_, State, state, Read, changed, with-word, parsed, graded, grade-or, grade-of, binder-grade, binder, Bound, bound, name-of, type-head, counted, type-rest, type-inside, simple-type}
 use Rattle.grammar.specs.Syntax.{Label, Ty, num, to, type-depth}
 use Rattle.grammar.specs.Grammar.{Lexes, none, more, Solid, Ungraded, No-grade, label, BinderIn, graded as written, bare, TypeIn, num-type, function-type}
 use Rattle.grammar.specs.Storing.{keep-grade, keep-type, entry, typed}

@@ -1,12 +1,12 @@
 -- The names of a sentence stand in its text where their labels say. Assumes nothing.
-use mathlib.Core.Path.{_≡_, refl, sym, ap, subst, _∙_}
+use mathlib.Core.Path.{_≡_, refl, ap, subst, _∙_}
 use mathlib.Core.Bool.{Bool, true, false, cond}
-use mathlib.Core.List.{List, [], _∷_}
+use mathlib.Core.List.{List, _∷_}
 use Prim.Native.Nat.{ℕ, _+_, _-_, _≤_}
 use native.Mathlib.Omega.{arith}
 use lib.Dec.{leb, ltb, eqb}
 use lib.IntN.{ℤ}
-use lib.ListN.{length, getD, take, drop, length-take, length-drop}
+use lib.ListN.{length, getD, drop, length-take, length-drop}
 use Rattle.std.specs.shelf.Lists.{between}
 use Rattle.std.proofs.shelf.Tests.{leb-false}
 use Rattle.std.specs.declared.option.Option.{Option}
@@ -15,11 +15,11 @@ use Rattle.std.specs.declared.result.Result.{Result}
 use Rattle.std.specs.declared.result.Result.the-variants.{Ok, Err}
 use Rattle.text.specs.declared.scan.Class.the-variants.{Blank, Digit, Wordy, Inside}
 use Rattle.text.specs.Decimals.{integer-of}
-use Rattle.text.specs.Scan.{in-class, front, run-end}
+use Rattle.text.specs.Scan.{run-end}
 use Rattle.tokens.specs.declared.refusal.Fault.{Fault}
 use Rattle.tokens.specs.declared.refusal.Refusal.the-variants.{NoToken, BadToken, BadGrade}
 use Rattle.language.specs.declared.heads.TermHead.{TermHead}
-use Rattle.tokens.specs.Tokens.{Lexeme, word, number, grade, end, Lexed, fault, lexed, Start, letter, digit, minus, opening, other, start-of, word-at, number-of, number-at, negative-at, grade-of, grade-at, starting, token-at}
+use Rattle.tokens.specs.Tokens.{Lexeme, word, number, grade, end, Lexed, fault, lexed, Start, letter, digit, minus, opening, other, start-of, number-of, grade-of, starting, token-at}
 use Rattle.grammar.specs.Syntax.{Label, Ty, Tm, Rule}
 use Rattle.grammar.specs.Grammar.{Lexes, more, label, BinderIn, graded, bare, TypeIn, num-type, function-type, TermIn, begun, PartsIn, name-parts, literal-parts, fn-parts, binary-parts, half-parts, less-parts, RuleIn, input-rule, run-rule}
 use Rattle.grammar.proofs.Beginnings.{absurd-ok, ok-same}

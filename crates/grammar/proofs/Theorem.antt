@@ -11,7 +11,7 @@ use Rattle.std.specs.declared.result.Result.{Result}
 use Rattle.std.specs.declared.result.Result.the-variants.{Ok, Err}
 use Rattle.tokens.specs.declared.refusal.Fault.{Fault}
 use Rattle.language.specs.Reading.{State, state, no-tables, rule, text-read}
-use Rattle.grammar.specs.Syntax.{Rule, term-words, run-of, rule-grades}
+use Rattle.grammar.specs.Syntax.{Rule}
 use Rattle.grammar.specs.Grammar.{RuleIn}
 use Rattle.grammar.specs.Storing.{ruled}
 use Rattle.grammar.specs.Recovering.{rule-in}
@@ -20,7 +20,7 @@ use Rattle.grammar.proofs.Beginnings.{absurd-ok}
 use Rattle.grammar.proofs.Sizes.{ruled-words, ruled-grades}
 use Rattle.grammar.proofs.Unique.{lexes-same, rule-same}
 use Rattle.grammar.proofs.Complete.{rule-complete}
-use Rattle.grammar.proofs.SoundRules.{Rule-read, rule-sound}
+use Rattle.grammar.proofs.SoundRules.{rule-sound}
 use Rattle.grammar.proofs.Recovered.{stored-held, ruled-long}
 use Rattle.grammar.proofs.Spelling.{rule-spelled}
 

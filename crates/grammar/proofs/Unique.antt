@@ -1,19 +1,17 @@
 -- A text has one list of tokens, and a list of tokens is at most one rule. Assumes nothing.
 use mathlib.Core.Path.{_≡_, refl, sym, ap, subst, _∙_}
-use mathlib.Core.List.{List, [], _∷_}
-use Prim.Native.Nat.{ℕ, suc}
+use mathlib.Core.List.{List, _∷_}
+use Prim.Native.Nat.{ℕ}
 use native.Mathlib.Omega.{arith}
 use Rattle.std.specs.declared.option.Option.{Option}
-use Rattle.std.specs.declared.option.Option.the-variants.{Some, None}
-use Rattle.std.specs.declared.result.Result.the-variants.{Ok, Err}
+use Rattle.std.specs.declared.option.Option.the-variants.{Some}
 use Rattle.tokens.specs.declared.keyword.Keyword.the-variants as keywords
 use Rattle.language.specs.declared.heads.TermHead.{TermHead}
 use Rattle.language.specs.declared.heads.TermHead.the-variants as heads
 use Rattle.tokens.specs.Keywords.{keyword-of}
-use Rattle.tokens.specs.Tokens.{Lexeme, word, number, grade, end, Lexed, token-at}
-use Rattle.language.specs.Reading.{term-head}
-use Rattle.grammar.specs.Syntax.{Label, Ty, num, to, Tm, name, literal, fn, binary, half, less, Rule, input, run}
-use Rattle.grammar.specs.Grammar.{Lexes, none, more, Solid, Begins, Ungraded, No-grade, label, BinderIn, graded, bare, TypeIn, num-type, function-type, TermIn, begun, PartsIn, name-parts, literal-parts, fn-parts, binary-parts, half-parts, less-parts, RuleIn, input-rule, run-rule}
+use Rattle.tokens.specs.Tokens.{Lexeme, word, grade, Lexed}
+use Rattle.grammar.specs.Syntax.{Label, Ty, to, Tm, fn, binary, half, less, Rule, input, run}
+use Rattle.grammar.specs.Grammar.{Lexes, none, more, Solid, Begins, Ungraded, label, BinderIn, graded, bare, TypeIn, num-type, function-type, TermIn, begun, PartsIn, name-parts, literal-parts, fn-parts, binary-parts, half-parts, less-parts, RuleIn, input-rule, run-rule}
 use Rattle.grammar.proofs.Beginnings.{ok-same, head-of}
 
 module _ {G : Type 0} {reading : List ℕ → Option (G × ℕ)} {text : List ℕ} where

@@ -1,7 +1,7 @@
 -- What a chain of readings gives, once each of its parts is known. Assumes nothing.
-use mathlib.Core.Path.{_≡_, refl, sym, ap, _∙_}
+use mathlib.Core.Path.{_≡_, sym, ap, _∙_}
 use mathlib.Core.List.{List, _∷_, _++_}
-use Prim.Native.Nat.{ℕ, zero, suc, _+_, _-_, _<_, _≤_}
+use Prim.Native.Nat.{ℕ, suc, _+_, _-_, _<_, _≤_}
 use native.Mathlib.Omega.{arith}
 use lib.ListN.{length, take, drop, replicate}
 use Rattle.std.proofs.shelf.Tests.{cond-false, le-ltb}
@@ -13,10 +13,9 @@ use Rattle.std.specs.declared.result.Result.the-variants.{Ok, Err}
 use Rattle.std.proofs.shelf.Results.{err-from-errBy}
 use Rattle.tokens.specs.declared.refusal.Fault.{Fault}
 use Rattle.language.specs.declared.program.SimpleType.{SimpleType}
-use Rattle.language.specs.declared.program.SimpleType.the-variants.{Num, To}
+use Rattle.language.specs.declared.program.SimpleType.the-variants.{To}
 use Rattle.language.specs.declared.program.Term.{Term}
 use Rattle.language.specs.declared.program.Term.the-variants.{Fn}
-use Rattle.language.specs.declared.program.Binder.{Binder}
 use Rattle.language.specs.declared.heads.Parsed.{Parsed}
 use Rattle.language.specs.declared.heads.TypeHead.{TypeHead}
 use Rattle.language.specs.declared.heads.TypeHead.the-variants as type-heads
@@ -25,7 +24,7 @@ use Rattle.language.specs.declared.heads.TermHead.the-variants as heads
 use Rattle.language.specs.declared.heads.RuleHead.{RuleHead}
 use Rattle.language.specs.declared.heads.RuleHead.the-variants as rule-heads
 use Rattle.tokens.specs.Tokens.{Lexed, token-at}
-use Rattle.language.specs.Reading.{told, _then_, State, Read, Tables, state, Bound, bound, changed, with-binder, with-type, with-node, binder, binder-grade, name-of, type-head, type-rest, type-by, type-inside, simple-type, counted, grade-of, graded, parsed, formed, store-type, store-term, term-head, term-parts, term-inside, term, rule-head, rule-rest, input, rule, with-input, no-tables, text-read, zeros-from, left-by, program-read}
+use Rattle.language.specs.Reading.{told, _then_, State, Read, Tables, state, Bound, changed, with-binder, with-type, with-node, binder, type-head, type-rest, type-inside, simple-type, counted, grade-of, graded, parsed, formed, store-type, store-term, term-head, term-parts, term-inside, term, rule-head, rule-rest, input, rule, with-input, no-tables, text-read, zeros-from, left-by, program-read}
 
 -- a reading that succeeded goes on, and one that failed ends the chain
 pub goes-on : {X Y : Type 0} (r : Result X Fault) (x : X) (k : X → Result Y Fault) → Ok x ≡ r → (r then k) ≡ k x

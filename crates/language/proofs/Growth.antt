@@ -1,6 +1,6 @@
 -- How the tables grow, step by step. Assumes nothing.
-use mathlib.Core.Path.{_≡_, sym, ap, subst}
-use mathlib.Core.List.{[], _∷_, _++_}
+use mathlib.Core.Path.{_≡_, sym, subst}
+use mathlib.Core.List.{_∷_, _++_}
 use Prim.Native.Nat.{ℕ, _+_, _<_, _≤_}
 use native.Mathlib.Omega.{arith}
 use lib.ListN.{length}
@@ -53,9 +53,3 @@ arrow-fits {t} {u} {v} g a b = (omega (arith, a .0, b .0), omega (arith, b .0), 
 
 pub fn-fits : {t u v : Tables} {binder domain body : ℕ} → binder < length (t .binders) → Grown 0 t u × (domain < length (u .types)) → Grown 0 u v × (body < length (v .nodes)) → (binder < length (v .binders)) × (domain < length (v .types)) × (body < length (v .nodes))
 fn-fits {t} {u} {v} n a b = (omega (arith, a .0, b .0), omega (arith, b .0), b .1)
-
-pub two-fit : {t u v : Tables} {left right : ℕ} → Grown 0 t u × (left < length (u .nodes)) → Grown 0 u v × (right < length (v .nodes)) → (left < length (v .nodes)) × (right < length (v .nodes))
-two-fit {t} {u} {v} a b = (omega (arith, b .0), b .1)
-
-pub four-fit : {s t u v w : Tables} {i j k l : ℕ} → Grown 0 s t × (i < length (t .nodes)) → Grown 0 t u × (j < length (u .nodes)) → Grown 0 u v × (k < length (v .nodes)) → Grown 0 v w × (l < length (w .nodes)) → (i < length (w .nodes)) × (j < length (w .nodes)) × (k < length (w .nodes)) × (l < length (w .nodes))
-four-fit {s} {t} {u} {v} {w} a b c d = (omega (arith, b .0, c .0, d .0), omega (arith, c .0, d .0), omega (arith, d .0), d .1)

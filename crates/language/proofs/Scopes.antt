@@ -1,11 +1,11 @@
 -- What a scope's names become inside one more binder, and how far a search for a name has come. Assumes nothing.
-use mathlib.Core.Path.{_≡_, refl, sym, ap, _∙_}
+use mathlib.Core.Path.{_≡_, refl, ap, _∙_}
 use mathlib.Core.Logic.{_≢_}
-use mathlib.Core.Bool.{Bool, true, false, cond}
+use mathlib.Core.Bool.{true, false, cond}
 use mathlib.Core.List.{List, [], _∷_}
 use Prim.Native.Nat.{ℕ, zero, suc, _+_, _-_, _<_, _≤_}
 use native.Mathlib.Omega.{arith}
-use native.Mathlib.Nat.{add-suc, add-zero, zero-add}
+use native.Mathlib.Nat.{zero-add}
 use lib.ListN.{length, getD, set}
 use Rattle.std.proofs.shelf.Lists.{getD-set-same, getD-set-other}
 use Rattle.std.specs.shelf.Text.{sameBytes}
@@ -36,10 +36,6 @@ past k o = mapped (λ n. n + k) o
 pub past-suc : (k : ℕ) (o : Option ℕ) → past k (mapped suc o) ≡ past (k + 1) o
 past-suc k None = refl
 past-suc k (Some n) = ap Some (omega arith)
-
-pub past-zero : (o : Option ℕ) → past 0 o ≡ o
-past-zero None = refl
-past-zero (Some n) = ap Some (omega arith)
 
 -- one turn of the search, at the name n, the innermost that is not yet looked at
 module _ (name : List ℕ) (names : List (List ℕ)) (n m : ℕ) (o : Option ℕ) (here : suc n ≡ m) where

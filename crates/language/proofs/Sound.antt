@@ -1,7 +1,7 @@
 -- The tables stay sound when an entry is added to one of them. Assumes nothing.
-use mathlib.Core.Path.{_≡_, refl, sym, ap, subst}
+use mathlib.Core.Path.{_≡_, refl, sym, subst}
 use mathlib.Core.Logic.{⊎-elim}
-use mathlib.Core.Bool.{Bool, true, false, _&&_}
+use mathlib.Core.Bool.{Bool, true, _&&_}
 use mathlib.Core.List.{List, [], _∷_, _++_}
 use Prim.Native.Nat.{ℕ, _+_, _<_, _≤_}
 use native.Mathlib.Omega.{arith}
@@ -38,10 +38,6 @@ both-more a b c d f g h = let p = and-parts a c h in and-from b d (f (p .0)) (g 
 same : (a : Bool) → a ≡ true → a ≡ true
 same a h = h
 
-type-more : (g g′ i : ℕ) (t : SimpleType) → g ≤ g′ → type-sound g i t ≡ true → type-sound g′ i t ≡ true
-type-more g g′ i Num h s = refl
-type-more g g′ i (To grade from to) h s = both-more _ _ _ _ (below-more grade g g′ h) (same _) s
-
 term-more : (b b′ t t′ i : ℕ) (u : Term) → b ≤ b′ → t ≤ t′ → term-sound b t i u ≡ true → term-sound b′ t′ i u ≡ true
 term-more b b′ t t′ i (Name k) h k′ s = refl
 term-more b b′ t t′ i (Number z) h k s = refl
@@ -72,14 +68,8 @@ term-fits t (Less left right below otherwise) h = and-from _ _ (two _ _ _ _ (h .
 pub binders-push : (g : ℕ) (xs : List Binder) (x : Binder) → Binders-sound g xs → x .grade < g → Binders-sound g (xs ++ (x ∷ []))
 binders-push g xs x all last = each-push (λ _ b. b .grade < g) xs x no-binder all last
 
-pub binders-more : (g g′ : ℕ) (xs : List Binder) → g ≤ g′ → Binders-sound g xs → Binders-sound g′ xs
-binders-more g g′ xs h all i k = omega (arith, all i k)
-
 pub types-push : (g : ℕ) (xs : List SimpleType) (x : SimpleType) → Types-sound g xs → type-sound g (length xs) x ≡ true → Types-sound g (xs ++ (x ∷ []))
 types-push g xs x all last = each-push (λ i t. type-sound g i t ≡ true) xs x Num all last
-
-pub types-more : (g g′ : ℕ) (xs : List SimpleType) → g ≤ g′ → Types-sound g xs → Types-sound g′ xs
-types-more g g′ xs h all i k = type-more g g′ i _ h (all i k)
 
 pub nodes-push : (b t : ℕ) (xs : List Node) (x : Node) → Nodes-sound b t xs → term-sound b t (length xs) (x .term) ≡ true → Nodes-sound b t (xs ++ (x ∷ []))
 nodes-push b t xs x all last = each-push (λ i n. term-sound b t i (n .term) ≡ true) xs x no-node all last

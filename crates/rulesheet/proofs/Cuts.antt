@@ -1,5 +1,5 @@
 -- Lines and parts of a text.
-use mathlib.Core.Path.{_≡_, refl, sym, _∙_, ap}
+use mathlib.Core.Path.{_≡_, sym, _∙_, ap}
 use mathlib.Core.Bool.{true, false, not, cond}
 use mathlib.Core.List.{List, []}
 use Prim.Native.Nat.{ℕ, suc, _+_, _-_, _≤_, _<_}
@@ -9,7 +9,6 @@ use lib.ListN.{length, getD, take, drop}
 use lib.Seq.{take-nil}
 use Rattle.std.proofs.shelf.Lists.{at-drop-more, at-drop-all, take-all, drop-all, length-drop}
 use Rattle.std.proofs.shelf.Tests.{cond-true, cond-false}
-use Rattle.text.specs.Scan.{front}
 use Rattle.rulesheet.specs.Lines.{line-length, first-line}
 
 pub line-more : (bytes : List ℕ) (i : ℕ) → i < length bytes → eqb (getD bytes i 0) 10 ≡ false → (i + 1) + line-length (drop (i + 1) bytes) ≡ i + line-length (drop i bytes)

@@ -2,7 +2,7 @@
 use mathlib.Core.Path.{_≡_, refl, sym, _∙_, ap}
 use mathlib.Core.Bool.{Bool, true, false, cond}
 use mathlib.Core.List.{List, [], _∷_, _++_, append-assoc, append-nil}
-use Prim.Native.Nat.{ℕ, zero, suc, _+_, _≤_, _<_}
+use Prim.Native.Nat.{ℕ, _+_, _≤_, _<_}
 use native.Mathlib.Omega.{arith}
 use lib.IntN.{ℤ}
 use lib.ListN.{length, getD, drop}
@@ -18,10 +18,6 @@ use Rattle.rulesheet.specs.Readings.{blank, reading, added-number, added, befo
 abbrev pub joined : List ℤ → Option (List ℤ) → Option (List ℤ)
 joined zs None = None
 joined zs (Some ys) = Some (zs ++ ys)
-
-pub joined-none : (o : Option (List ℤ)) → joined [] o ≡ o
-joined-none None = refl
-joined-none (Some ys) = refl
 
 joined-number : (zs : List ℤ) (z : ℤ) (rest : Option (List ℤ)) → joined zs (before (Some z) rest) ≡ joined (zs ++ z ∷ []) rest
 joined-number zs z None = refl
@@ -39,14 +35,6 @@ number-joined zs (Some z) rest = joined-number zs z rest
 pub word-joined : (zs : List ℤ) (w : List ℕ) (rest : Option (List ℤ)) → joined zs (ended w rest) ≡ onward (added zs w) rest
 word-joined zs [] rest = refl
 word-joined zs (b ∷ w) rest = number-joined zs (reading (b ∷ w)) rest
-
-pub added-some : (zs : List ℤ) (w : List ℕ) → 0 < length w → added zs w ≡ added-number zs (reading w)
-added-some zs [] h = let z : ⊥ = omega arith in elim z [ ]
-added-some zs (b ∷ w) h = refl
-
-pub added-none : (zs : List ℤ) (w : List ℕ) → length w ≡ 0 → (true, zs) ≡ added zs w
-added-none zs [] h = refl
-added-none zs (b ∷ w) h = let z : ⊥ = omega arith in elim z [ ]
 
 module _ (line : List ℕ) (start i : ℕ) (inside : i < length line) (order : start ≤ i) where
   -- a byte of a word

@@ -1,4 +1,4 @@
-use mathlib.Core.Path.{_≡_, refl, sym, ap, _∙_}
+use mathlib.Core.Path.{_≡_, sym, ap, _∙_}
 use Rattle.language.specs.Scopes.{open-names}
 use Rattle.language.specs.Reading.{tables-of, state-of, simple-type, term}
 use Rattle.language.proofs.Chains.{goes-on, ends, failed, nothing-made, node-stored, term-begun, fn-begun}

@@ -3,7 +3,7 @@ use mathlib.Core.List.{_∷_}
 use Prim.Native.Nat.{_-_}
 use native.Mathlib.Omega.{arith}
 use Rattle.language.specs.Scopes.{open-names}
-use Rattle.language.specs.Reading.{tables-of, state, state-of, rule}
+use Rattle.language.specs.Reading.{state, state-of, rule}
 use Rattle.language.proofs.Chains.{goes-on, ends, failed, input-begun}
 use Rattle.language.proofs.reader.+read_rule.Needs as need
 

@@ -1,12 +1,7 @@
-use mathlib.Core.Path.{_≡_, refl, sym, ap, _∙_}
-use native.Mathlib.Omega.{arith}
-use Prim.Native.Nat.{ℕ, _≤_, _<_, _+_}
-use borrow.Author.Needs.{needs}
-use lib.ListN.{length}
-use Rattle.std.specs.declared.result.Result.the-variants.{Ok, Err}
-use Rattle.language.specs.declared.heads.TypeHead.the-variants.{Num, To}
-use Rattle.language.specs.Reading.{Tables, tables-of, state, state-of, type-rest, type-inside, simple-type}
-use Rattle.language.specs.Growth.{Grown}
+use mathlib.Core.Path.{_≡_, sym, ap, _∙_}
+use Prim.Native.Nat.{_≤_, _<_, _+_}
+use Rattle.std.specs.declared.result.Result.the-variants.{Ok}
+use Rattle.language.specs.Reading.{tables-of, state-of, simple-type}
 use Rattle.language.proofs.Chains.{goes-on, ends, failed, nothing-made, type-stored, type-begun, arrow-parts}
 use Rattle.language.proofs.Growth.{grown-word, grown-grade, on, room, stored-type, type-there, grade-there, arrow-fits}
 use Rattle.language.proofs.reader.+read_type.Given as given

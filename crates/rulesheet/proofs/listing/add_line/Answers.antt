@@ -1,7 +1,6 @@
-use mathlib.Core.Path.{sym, _∙_, ap}
+use mathlib.Core.Path.{_∙_, ap}
 use mathlib.Core.List.{_++_}
 use Rattle.std.specs.Of.Vec.{vec-items}
-use Rattle.rulesheet.specs.Listings.{input-line}
 use Rattle.rulesheet.proofs.Prints.{four-joined}
 use Rattle.rulesheet.proofs.listing.add_line.Needs as need
 

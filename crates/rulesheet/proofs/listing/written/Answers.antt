@@ -1,5 +1,4 @@
-use borrow.Author.Needs.{needs}
-use mathlib.Core.Path.{_≡_, sym, _∙_, ap}
+use mathlib.Core.Path.{_≡_, _∙_}
 use lib.ListN.{length}
 use Rattle.rulesheet.proofs.Grades.{room-used, buffer-written}
 use Rattle.rulesheet.proofs.Prints.{whole-written}

@@ -3,8 +3,7 @@ use mathlib.Core.Path.{_≡_, sym, _∙_, ap}
 use native.Mathlib.Omega.{arith}
 use lib.ListN.{length}
 use Rattle.std.specs.Of.Vec.{vec-items}
-use Rattle.rulesheet.specs.Readings.{added}
-use Rattle.rulesheet.proofs.Numbers.{Going, again-past, again-on, answered, refused-at, done-with, refused-last}
+use Rattle.rulesheet.proofs.Numbers.{again-past, again-on, answered, refused-at, done-with, refused-last}
 use Rattle.rulesheet.proofs.readings.readings_of.Needs as need
 use Rattle.rulesheet.proofs.readings.readings_of.Needs.{then-is-blank·in-Continue-add-word·else-not-branch, else-is-blank}
 

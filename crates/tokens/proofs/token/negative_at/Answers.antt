@@ -1,6 +1,6 @@
 use Prim.Native.Nat.{_+_}
 use native.Mathlib.Omega.{arith}
-use Rattle.text.specs.declared.scan.Class.the-variants.{Digit, Wordy}
+use Rattle.text.specs.declared.scan.Class.the-variants.{Digit}
 use Rattle.tokens.proofs.Tokens.{run-within}
 use Rattle.tokens.proofs.token.negative_at.Needs as need
 

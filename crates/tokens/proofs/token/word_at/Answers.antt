@@ -1,5 +1,5 @@
 use native.Mathlib.Omega.{arith}
-use Rattle.text.specs.declared.scan.Class.the-variants.{Digit, Wordy}
+use Rattle.text.specs.declared.scan.Class.the-variants.{Wordy}
 use Rattle.tokens.proofs.Tokens.{run-within}
 use Rattle.tokens.proofs.token.word_at.Needs as need
 

@@ -1,5 +1,5 @@
 use borrow.Author.Needs.{needs}
-use Prim.Native.Nat.{suc, _-_, _+_, _<_}
+use Prim.Native.Nat.{_-_, _+_, _<_}
 use native.Mathlib.Numerals.{add-one}
 use lib.ListN.{length}
 use mathlib.Core.Path.{_≡_, refl, _∙_, ap}

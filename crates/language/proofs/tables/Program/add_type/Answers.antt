@@ -1,14 +1,14 @@
 use mathlib.Core.Path.{_≡_, sym, ap, subst}
-use mathlib.Core.List.{[], _∷_, _++_}
+use mathlib.Core.List.{_∷_, _++_}
 use Prim.Native.Nat.{_+_, _≤_}
 use native.Mathlib.Omega.{arith}
 use borrow.Author.Needs.{needs}
 use lib.ListN.{length}
-use Rattle.std.specs.Of.Vec.{vec-items, vec-len}
+use Rattle.std.specs.Of.Vec.{vec-items}
 use Rattle.std.proofs.shelf.Lists.{length-push}
-use Rattle.language.specs.Tables.{Binders-sound, Types-sound, Nodes-sound}
+use Rattle.language.specs.Tables.{Types-sound}
 use Rattle.language.specs.Reading.{tables-of}
-use Rattle.language.proofs.Sound.{binders-push, types-push, nodes-push, nodes-more, type-fits, term-fits}
+use Rattle.language.proofs.Sound.{types-push, nodes-more, type-fits}
 use Rattle.language.proofs.tables.Program.add_type.Needs as need
 
 pub ghost-self : need.ghost-self
