@@ -1,10 +1,8 @@
 -- What a reading answers, and texts without `}`.
-use Rattle.std.proofs.Common.{◌≡◌, ℕ, Bool, true, not, ◌&&◌, eqb, List, [], ◌∷◌, length, take, Some, Decides, Option, refl, ap}
-use Rattle.std.specs.Cmp.Lexicographic.{Matches}
-use Rattle.std.specs.List.{AllByRecursion as All}
+use Rattle.std.proofs.Common.{◌≡◌, ℕ, Bool, true, not, ◌&&◌, eqb, List, [], ◌∷◌, length, take, Some, Option, refl, sym, ap}
+use Rattle.std.specs.List.{AllByRecursion}
 use Rattle.std.specs.Str.{bytes_eq}
-use Rattle.std.proofs.lemmas.Slice.Eq.{slice_eq-Decides, bytes_eq-Decides}
-use Rattle.std.proofs.lemmas.Bool.Decides.{Decides-eqb, Decides-not, same_from_decides}
+use Rattle.std.proofs.lemmas.Bool.Decides.{Decides-eqb, Decides-not}
 use Rattle.std.proofs.ByRecursion.{Decides-by_and}
 use Rattle.grades.specs.Texts.{brace}
 
@@ -14,14 +12,14 @@ same_answer {G} p q m n e =
     let pair : ◌≡◌ {A = G × ℕ} (p, m) (q, n) = cc in (ap (λ x. x.0) pair, ap (λ x. x.1) pair)
 
 -- what `starts_with` answers
-pub starts_same : (w bs : List ℕ) (r : Bool) → Matches (λ (a b : ℕ) (t : Bool). Decides t (a ≡ b)) w (take (length w) bs) r → bytes_eq w (take (length w) bs) ≡ r
-starts_same w bs r m = same_from_decides _ r (bytes_eq-Decides w (take (length w) bs)) (slice_eq-Decides Decides-eqb w (take (length w) bs) r m)
+pub starts_same : (w bs : List ℕ) (r : Bool) → r ≡ bytes_eq w (take (length w) bs) → bytes_eq w (take (length w) bs) ≡ r
+starts_same w bs r e = sym e
 
 -- no byte is `}`, as a test that computes
 abbrev pub unbraced : List ℕ → Bool
 unbraced [] = true
 unbraced (b ∷ bs) = not (eqb b brace) && unbraced bs
 
-pub no_brace_from : (bs : List ℕ) → unbraced bs ≡ true → All (λ b. b ≡ brace → ⊥) bs
+pub no_brace_from : (bs : List ℕ) → unbraced bs ≡ true → AllByRecursion (λ b. b ≡ brace → ⊥) bs
 no_brace_from bs =
     (Decides-by_and (λ b. not (eqb b brace)) (λ b. b ≡ brace → ⊥) unbraced (λ b. Decides-not (eqb b brace) (Decides-eqb b brace)) refl (λ _ _. refl) bs).0

@@ -1,6 +1,6 @@
 -- What the text of a written algebra keeps. Assumes nothing.
 use Rattle.std.specs.Prelude.{◌≡◌, ℕ, ◌⊎◌, ◌↔◌, List, [], ◌∷◌, ◌++◌, length, Some, Option, ◌≢◌}
-use Rattle.std.specs.List.{AllByRecursion as All}
+use Rattle.std.specs.List.{AllByRecursion}
 
 -- `|`, between the two texts of a pairing
 abbrev pub bar : ℕ
@@ -19,4 +19,4 @@ pub record Text {G : Type 0} (reading : List ℕ → Option (G × ℕ)) (writing
   -- bytes w followed by nothing, `|` or `}` are read as g, with the length of w, exactly when w is the writing of g
   pub exact : (w rest : List ℕ) (g : G) → Stops rest → (reading (w ++ rest) ≡ Some (g, length w)) ↔ (w ≡ writing g)
   -- no writing holds `}`
-  pub no_brace : (g : G) → All (λ b. b ≢ brace) (writing g)
+  pub no_brace : (g : G) → AllByRecursion (λ b. b ≢ brace) (writing g)

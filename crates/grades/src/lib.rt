@@ -1,4 +1,6 @@
 // Algebras of usage: how often a name may be read, with the laws that every algebra keeps.
+#![tactic(auto)]
+
 pub mod algebra;
 pub mod consequences;
 

@@ -1,4 +1,6 @@
 // The grammar of rules, the theorem that reading accepts exactly its sentences, and programs that are closed.
+#![tactic(auto)]
+
 ghost use Rattle.grammar.specs.Sentences.{Exact};
 
 pub mod closed;

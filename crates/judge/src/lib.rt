@@ -1,4 +1,6 @@
 // The judge: a recursion over the terms of a program, and its verdict on a rule.
+#![tactic(auto)]
+
 mod combination;
 mod context;
 pub mod rule;

@@ -1,4 +1,6 @@
 // The language of rules: names, terms, program tables and the reader.
+#![tactic(auto)]
+
 pub mod heads;
 pub mod program;
 pub mod reader;

@@ -1,4 +1,6 @@
 // The algebra of levels: who may see a reading.
+#![tactic(auto)]
+
 ghost use Rattle.std.specs.Prelude.{◌≡◌};
 ghost use Rattle.levels.specs.Levels.{lower, higher, level_covers, level_taking, level_reading, level_writing};
 ghost use Rattle.levels.specs.declared.Level.TheVariants.{Public, Crew, Secret};

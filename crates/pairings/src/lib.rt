@@ -1,4 +1,6 @@
 // Pairings: two grades kept side by side.
+#![tactic(auto)]
+
 ghost use Rattle.std.specs.Prelude.{◌≡◌};
 ghost use Rattle.pairings.specs.Pairs.{paired, pair_with, pair_covers, pair_taking, pair_reading, pair_writing};
 ghost use Rattle.pairings.specs.PairLaws.{pair_laws};

@@ -1,5 +1,7 @@
 // The program: reads a kind of grades, a line of readings and the text of a rule from standard input, and prints the
 // refusal, or the inputs of the rule with their grades.
+#![tactic(auto)]
+
 mod kind;
 mod lines;
 mod listing;

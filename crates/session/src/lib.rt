@@ -1,4 +1,6 @@
 // A session: the calls by which a rule is loaded and judged, and what the session then has.
+#![tactic(auto)]
+
 pub mod load;
 pub mod phase;
 pub mod state;

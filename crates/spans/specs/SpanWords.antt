@@ -3,7 +3,7 @@ use Rattle.std.specs.Prelude.{◌≡◌, ℕ, ◌+◌, ◌-◌, ◌≤◌, Bool,
 use Rattle.std.proofs.Common.{sym, ◌∙◌, ap, subst, ⊎_elim, arith, take-add}
 use Rattle.std.specs.Cmp.Lexicographic.{Matches}
 use Rattle.std.specs.Char.{is_ascii_digit}
-use Rattle.std.specs.List.{AllByRecursion as All}
+use Rattle.std.specs.List.{AllByRecursion}
 use Rattle.std.specs.Str.{all_ascii_digits}
 use Rattle.text.specs.declared.scan.Class.TheVariants.{Digit}
 use Rattle.text.specs.Decimals.{decimal_upto}
@@ -146,16 +146,16 @@ span_back s rest stop =
     ∙ ap (λ p. Some (p, length (decimal s.lower) + (2 + length text))) (same_span (spanned s.lower s.upper) s (omega arith) (omega arith))
     ∙ ap (λ k. Some (s, k)) size
 
-no_brace_digits : (ds : List ℕ) → all_ascii_digits ds ≡ true → All (λ b. b ≢ brace) ds
+no_brace_digits : (ds : List ℕ) → all_ascii_digits ds ≡ true → AllByRecursion (λ b. b ≢ brace) ds
 no_brace_digits [] t = tt
 no_brace_digits (d ∷ ds) t =
     let b = and_parts (is_ascii_digit d) (all_ascii_digits ds) t in
     let c = and_parts (nat_le 48 d) (nat_le d 57) b.0 in
     let h = leb-true d 57 c.1 in ((λ e. omega arith), no_brace_digits ds b.1)
 
-no_brace_upper : (u : ℕ) → u ≤ no_limit → All (λ b. b ≢ brace) (upper_writing u)
+no_brace_upper : (u : ℕ) → u ≤ no_limit → AllByRecursion (λ b. b ≢ brace) (upper_writing u)
 no_brace_upper u h =
-    cond_both (u == no_limit) (codes "*") (decimal u) (All (λ b. b ≢ brace)) (λ _. no_brace_from (codes "*") refl) (λ _. no_brace_digits (decimal u) (decimal_digits u (omega arith)))
+    cond_both (u == no_limit) (codes "*") (decimal u) (AllByRecursion (λ b. b ≢ brace)) (λ _. no_brace_from (codes "*") refl) (λ _. no_brace_digits (decimal u) (decimal_digits u (omega arith)))
 
 pub span_text : Text span_reading span_writing
 span_text =

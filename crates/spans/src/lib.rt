@@ -1,4 +1,6 @@
 // Spans: how often a name is read, from a lower to an upper end.
+#![tactic(auto)]
+
 ghost use Rattle.std.specs.Prelude.{◌≤◌};
 
 pub mod algebra;

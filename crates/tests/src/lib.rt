@@ -1,4 +1,6 @@
 // Tests of the reader and of a session's calls: texts, and what comes of them.
+#![tactic(auto)]
+
 #[cfg(test)]
 mod helpers;
 #[cfg(test)]

@@ -3,7 +3,7 @@ use Rattle.std.proofs.Common.{◌≡◌, ℕ, suc, ◌+◌, ◌<◌, ◌≤◌, 
 use Rattle.std.proofs.lemmas.List.{at_drop_more, at_drop_all}
 use Rattle.std.proofs.lemmas.Bool.{cond-true, cond-false, cond_both, and_parts}
 use Rattle.std.specs.Char.{is_ascii_digit}
-use Rattle.std.specs.List.{AllByRecursion as All}
+use Rattle.std.specs.List.{AllByRecursion}
 use Rattle.std.specs.Str.{all_ascii_digits}
 use Rattle.text.specs.declared.scan.Class.{Class}
 use Rattle.text.specs.declared.scan.Class.TheVariants.{Digit}
@@ -33,11 +33,11 @@ abbrev pub Halts : (ℕ → Bool) → List ℕ → Type 0
 Halts p [] = Unit {0}
 Halts p (b ∷ bs) = p b ≡ false
 
-pub front_exact : (p : ℕ → Bool) (ds rest : List ℕ) → All (λ b. p b ≡ true) ds → Halts p rest → front p (ds ++ rest) ≡ length ds
+pub front_exact : (p : ℕ → Bool) (ds rest : List ℕ) → AllByRecursion (λ b. p b ≡ true) ds → Halts p rest → front p (ds ++ rest) ≡ length ds
 front_exact p [] [] a h = refl
 front_exact p [] (b ∷ bs) a h = cond-false _ _ _ h
 front_exact p (d ∷ ds) rest a h = cond-true _ _ _ a.0 ∙ ap suc (front_exact p ds rest a.1 h)
 
-pub digits_pass : (ds : List ℕ) → all_ascii_digits ds ≡ true → All (λ b. in_class Digit b ≡ true) ds
+pub digits_pass : (ds : List ℕ) → all_ascii_digits ds ≡ true → AllByRecursion (λ b. in_class Digit b ≡ true) ds
 digits_pass [] t = tt
 digits_pass (d ∷ ds) t = let b = and_parts (is_ascii_digit d) (all_ascii_digits ds) t in (b.0, digits_pass ds b.1)

@@ -1,4 +1,6 @@
 // Texts as bytes: runs of a class of bytes, decimal numbers, and writing into a buffer.
+#![tactic(auto)]
+
 pub mod numeral;
 pub mod put;
 pub mod scan;

@@ -1,4 +1,6 @@
 // The tokens of a rule's text, and why a text or a call is refused.
+#![tactic(auto)]
+
 pub mod keyword;
 pub mod refusal;
 pub mod token;

@@ -1,4 +1,6 @@
 // Types, usages and derivations, and the theorem that judging accepts exactly the acceptable rules.
+#![tactic(auto)]
+
 ghost use Rattle.typing.specs.Verdicts.{Exact};
 
 use grades::Algebra;

@@ -6,8 +6,8 @@ use Rattle.judge.proofs.rule.cover_inputs.Goals as goal
 pub loop-i-init : goal.loop-i-init
 loop-i-init g c = refl
 
-pub offset-bounds-grades-grade : goal.offset-bounds-grades-grade
-offset-bounds-grades-grade g c =
+pub offset_bounds-grades-grade : goal.offset_bounds-grades-grade
+offset_bounds-grades-grade g c =
     let program = c.args.program.now in
     let below : c.loop-i.i < length (vec_items program.binders) = omega (arith, program.declared) in
     let listed = grade_listed c.args.grades.now (vec_items program.binders) program.grades c.loop-i.i c.index.result.now program.bsound program.gradesfew c.requires.long below c.index.ensures in

@@ -157,8 +157,8 @@ judge-fn-returns-in-err-result g t c =
     refused_judges a list context (term_in a.nil list tables 0 (Fn c.args.binder c.args.domain c.args.body)) types (vec_items c.judge-term.new.types.types) c.from-residual.result c.judge-term.new.usage (broke c.from-residual.result c.from-residual.ensures.1)
     (body_fails_here a list context 0 (label_of [] n) (get_or list n.grade a.nil) c.args.domain (term_at a.nil list tables c.args.body) inner c.requires.ready inside c.in-err-result.ensures.answer)
 
-pub judge-fn-offset-bounds-grades-grade : goal.judge-fn-offset-bounds-grades-grade
-judge-fn-offset-bounds-grades-grade g t c =
+pub judge-fn-offset_bounds-grades-grade : goal.judge-fn-offset_bounds-grades-grade
+judge-fn-offset_bounds-grades-grade g t c =
     let a = g.G.Algebra in
     let list = c.args.grades.now in
     let tables = tables_of c.args.program.now in

@@ -5,8 +5,8 @@ use Rattle.spans.specs.SpanTexts.{digits_at, with_length}
 use Rattle.spans.specs.SpanWords.{digits_fit}
 use Rattle.spans.proofs.written.number_at.Goals as goal
 
-pub slice-bounds-decimal-end : goal.slice-bounds-decimal-end
-slice-bounds-decimal-end c = let fit = digits_fit c.args.bytes.now in sym (length-take-le _ _ (omega arith))
+pub slice_bounds-decimal-end : goal.slice_bounds-decimal-end
+slice_bounds-decimal-end c = let fit = digits_fit c.args.bytes.now in sym (length-take-le _ _ (omega arith))
 
 pub returns-in-err-number : goal.returns-in-err-number
 returns-in-err-number c =

@@ -22,8 +22,8 @@ room c = shorter c.loop-rest.rest c.loop-rest.first c.loop-rest-test.true (omega
 pub loop-rest-init : goal.loop-rest-init
 loop-rest-init c = (refl, omega arith, omega arith, length-decimal-le 10 c.args.n (omega arith) (omega arith) (omega arith), append-nil _)
 
-pub overflow-sub-first-in-loop-rest : goal.overflow-sub-first-in-loop-rest
-overflow-sub-first-in-loop-rest c = (room c).0
+pub overflow_sub-first-in-loop-rest : goal.overflow_sub-first-in-loop-rest
+overflow_sub-first-in-loop-rest c = (room c).0
 
 pub loop-rest-smaller : goal.loop-rest-smaller
 loop-rest-smaller c = omega (arith, (room c).0)

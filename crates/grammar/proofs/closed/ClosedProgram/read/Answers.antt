@@ -2,8 +2,8 @@ use Rattle.language.specs.Reading.{tables_of}
 use Rattle.grammar.proofs.Closing.{closed_of, program_closed}
 use Rattle.grammar.proofs.closed.ClosedProgram.read.Goals as goal
 
-pub invariant-of-self : goal.invariant-of-self
-invariant-of-self g c =
+pub invariant_of-self : goal.invariant_of-self
+invariant_of-self g c =
     let s = c.args.self.now in
     let k = program_closed g.G.Written.reading g.G.Algebra.unit g.G.Algebra.nil c.args.text.now (tables_of s.program) c.args.grades.now (c.read-program.result, tables_of c.read-program.new.program, c.read-program.new.grades) c.read-program.ensures (closed_of s) in
     (k.0.closed, (k.0.levels, (k.0.functions, tt)))

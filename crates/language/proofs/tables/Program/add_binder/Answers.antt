@@ -4,8 +4,8 @@ use Rattle.language.specs.Tables.{BindersSound}
 use Rattle.language.proofs.Sound.{binders_push, nodes_more}
 use Rattle.language.proofs.tables.Program.add_binder.Goals as goal
 
-pub invariant-of-self : goal.invariant-of-self
-invariant-of-self c =
+pub invariant_of-self : goal.invariant_of-self
+invariant_of-self c =
     let s = c.args.self.now in
     let items = c.push-reserved.ensures.items in
     let longer = ap length items in

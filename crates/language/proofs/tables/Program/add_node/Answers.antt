@@ -5,8 +5,8 @@ use Rattle.language.specs.Reading.{tables_of}
 use Rattle.language.proofs.Sound.{nodes_push, term_fits}
 use Rattle.language.proofs.tables.Program.add_node.Goals as goal
 
-pub invariant-of-self : goal.invariant-of-self
-invariant-of-self c =
+pub invariant_of-self : goal.invariant_of-self
+invariant_of-self c =
     let s = c.args.self.now in
     let items = c.push-reserved.ensures.items in
     let longer = ap length items in

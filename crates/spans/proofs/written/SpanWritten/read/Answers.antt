@@ -8,11 +8,11 @@ use Rattle.spans.proofs.written.SpanWritten.read.Goals as goal
 fit : (c : goal.In-ok-lower) → c.in-ok-lower.len ≤ length c.args.bytes.now
 fit c = (number_at_some c.args.bytes.now c.in-ok-lower.lower c.in-ok-lower.len (sym c.in-ok-lower.ensures)).0
 
-pub slice-bounds-rest-count : goal.slice-bounds-rest-count
-slice-bounds-rest-count c = fit c
+pub slice_bounds-rest-count : goal.slice_bounds-rest-count
+slice_bounds-rest-count c = fit c
 
-pub slice-bounds-rest-start : goal.slice-bounds-rest-start
-slice-bounds-rest-start c = let f = fit c in search rules
+pub slice_bounds-rest-start : goal.slice_bounds-rest-start
+slice_bounds-rest-start c = let f = fit c in search rules
 
 pub returns-then-not-starts-with : goal.returns-then-not-starts-with
 returns-then-not-starts-with c =
@@ -29,14 +29,14 @@ returns-then-lower-upper c =
 facts : (c : goal.Else-lower-upper) → (c.in-ok-lower.lower ≤ most) × (c.in-ok-upper.upper ≤ no_limit) × (c.in-ok-lower.len + (2 + c.in-ok-upper.more) ≤ length c.args.bytes.now)
 facts c = read_facts c.args.bytes.now _ _ _ _ c.in-ok-lower.ensures c.if-not-starts-with.ensures.value c.in-ok-upper.ensures
 
-pub overflow-add-result : goal.overflow-add-result
-overflow-add-result c = let f = facts c in search rules
+pub overflow_add-result : goal.overflow_add-result
+overflow_add-result c = let f = facts c in search rules
 
-pub overflow-add-result-2 : goal.overflow-add-result-2
-overflow-add-result-2 c = let f = facts c in search rules
+pub overflow_add-result-2 : goal.overflow_add-result-2
+overflow_add-result-2 c = let f = facts c in search rules
 
-pub invariant-of-result : goal.invariant-of-result
-invariant-of-result c = let f = facts c in (omega arith, (f.0, (f.1, tt)))
+pub invariant_of-result : goal.invariant_of-result
+invariant_of-result c = let f = facts c in (omega arith, (f.0, (f.1, tt)))
 
 pub returns : goal.returns
 returns c =
