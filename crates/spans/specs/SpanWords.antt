@@ -1,7 +1,6 @@
 -- The texts of spans.
-use Rattle.std.specs.Prelude.{◌≡◌, ℕ, ◌+◌, ◌-◌, ◌≤◌, Bool, true, false, List, [], ◌∷◌, ◌++◌, length, take, drop, Some, None, codes, decimal, Decides, Option, ◌==◌, ◌≢◌, nat_le, slice_index, refl}
+use Rattle.std.specs.Prelude.{bytes_eq, ◌≡◌, ℕ, ◌+◌, ◌-◌, ◌≤◌, Bool, true, false, List, [], ◌∷◌, ◌++◌, length, take, drop, Some, None, codes, decimal, Decides, Option, ◌==◌, ◌≢◌, nat_le, slice_index, refl}
 use Rattle.std.proofs.Common.{sym, ◌∙◌, ap, subst, ⊎_elim, arith, take-add}
-use Rattle.std.specs.Cmp.Lexicographic.{Matches}
 use Rattle.std.specs.Char.{is_ascii_digit}
 use Rattle.std.specs.List.{AllByRecursion}
 use Rattle.std.specs.Str.{all_ascii_digits}
@@ -62,19 +61,19 @@ read_dotted bs lower n o e d f = ap (from_lower bs) (sym e) ∙ cond-true _ _ _ 
 abbrev pub after_lower : List ℕ → ℕ → List ℕ
 after_lower bs n = take (length bs - n) (drop n bs)
 
-dotted_after : (bs : List ℕ) (n : ℕ) (r : Bool) → Matches (λ (a b : ℕ) (t : Bool). Decides t (a ≡ b)) (codes "..") (take 2 (after_lower bs n)) r → dotted (drop n bs) ≡ r
+dotted_after : (bs : List ℕ) (n : ℕ) (r : Bool) → r ≡ bytes_eq (codes "..") (take 2 (after_lower bs n)) → dotted (drop n bs) ≡ r
 dotted_after bs n r m = ap dotted (sym (take_rest bs n)) ∙ starts_same (codes "..") (after_lower bs n) r m
 
-pub read_undotted : (bs : List ℕ) (lower n : ℕ) → Some (lower, n) ≡ number_at bs → Matches (λ (a b : ℕ) (t : Bool). Decides t (a ≡ b)) (codes "..") (take 2 (after_lower bs n)) false → None ≡ span_reading bs
+pub read_undotted : (bs : List ℕ) (lower n : ℕ) → Some (lower, n) ≡ number_at bs → false ≡ bytes_eq (codes "..") (take 2 (after_lower bs n)) → None ≡ span_reading bs
 read_undotted bs lower n e m = sym (ap (from_lower bs) (sym e) ∙ cond-false _ _ _ (dotted_after bs n false m))
 
 after_dots : (bs : List ℕ) (n : ℕ) → take (length (after_lower bs n) - 2) (drop 2 (after_lower bs n)) ≡ drop 2 (drop n bs)
 after_dots bs n = take_rest (after_lower bs n) 2 ∙ ap (drop 2) (take_rest bs n)
 
-pub read_upper : (bs : List ℕ) (lower n : ℕ) (o : Option (ℕ × ℕ)) → Some (lower, n) ≡ number_at bs → Matches (λ (a b : ℕ) (t : Bool). Decides t (a ≡ b)) (codes "..") (take 2 (after_lower bs n)) true → o ≡ upper_at (take (length (after_lower bs n) - 2) (drop 2 (after_lower bs n))) → span_reading bs ≡ up_to lower n o
+pub read_upper : (bs : List ℕ) (lower n : ℕ) (o : Option (ℕ × ℕ)) → Some (lower, n) ≡ number_at bs → true ≡ bytes_eq (codes "..") (take 2 (after_lower bs n)) → o ≡ upper_at (take (length (after_lower bs n) - 2) (drop 2 (after_lower bs n))) → span_reading bs ≡ up_to lower n o
 read_upper bs lower n o e m f = read_dotted bs lower n o e (dotted_after bs n true m) (f ∙ ap upper_at (after_dots bs n))
 
-pub read_facts : (bs : List ℕ) (lower n upper k : ℕ) → Some (lower, n) ≡ number_at bs → Matches (λ (a b : ℕ) (t : Bool). Decides t (a ≡ b)) (codes "..") (take 2 (after_lower bs n)) true → Some (upper, k) ≡ upper_at (take (length (after_lower bs n) - 2) (drop 2 (after_lower bs n))) → (lower ≤ most) × (upper ≤ no_limit) × (n + (2 + k) ≤ length bs)
+pub read_facts : (bs : List ℕ) (lower n upper k : ℕ) → Some (lower, n) ≡ number_at bs → true ≡ bytes_eq (codes "..") (take 2 (after_lower bs n)) → Some (upper, k) ≡ upper_at (take (length (after_lower bs n) - 2) (drop 2 (after_lower bs n))) → (lower ≤ most) × (upper ≤ no_limit) × (n + (2 + k) ≤ length bs)
 read_facts bs lower n upper k e m f =
     let a = number_at_some bs lower n (sym e) in
     let b = upper_at_some (drop 2 (drop n bs)) upper k (sym (f ∙ ap upper_at (after_dots bs n))) in

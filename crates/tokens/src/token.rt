@@ -27,7 +27,7 @@ pub struct Placed<'a, G> {
 
 // The first token at or after the place `from`, past any blanks.
 pub fn token_at<G: Written>(text: &[u8], from: usize) -> Result<Placed<'_, G>, Fault>
-    ensures { seen result ≡ token_at reading text.now from }
+    ensures { seen result ≡ token_at G.reading text.now from }
 {
     let place = run_end(text, from, Class::Blank);
     if place >= text.len() {
@@ -51,7 +51,7 @@ pub fn token_at<G: Written>(text: &[u8], from: usize) -> Result<Placed<'_, G>, F
 
 fn word_at<G: Written>(text: &[u8], place: usize) -> Result<Placed<'_, G>, Fault>
     requires { place ≤ length text.now }
-    ensures { seen result ≡ word_at reading text.now place }
+    ensures { seen result ≡ word_at G.reading text.now place }
 {
     let next = run_end(text, place, Class::Wordy);
     if next - place > LONGEST_WORD {
@@ -69,7 +69,7 @@ fn word_at<G: Written>(text: &[u8], place: usize) -> Result<Placed<'_, G>, Fault
 
 fn number_at<G: Written>(text: &[u8], place: usize) -> Result<Placed<'_, G>, Fault>
     requires { place ≤ length text.now }
-    ensures { seen result ≡ number_at reading text.now place }
+    ensures { seen result ≡ number_at G.reading text.now place }
 {
     let next = run_end(text, place, Class::Digit);
     let Some(n) = integer(&text[place..next], false) else {
@@ -88,7 +88,7 @@ fn number_at<G: Written>(text: &[u8], place: usize) -> Result<Placed<'_, G>, Fau
 // The byte at `place` is `-`.
 fn negative_at<G: Written>(text: &[u8], place: usize) -> Result<Placed<'_, G>, Fault>
     requires { place < length text.now }
-    ensures { seen result ≡ negative_at reading text.now place }
+    ensures { seen result ≡ negative_at G.reading text.now place }
 {
     let next = run_end(text, place + 1, Class::Digit);
     if next == place + 1 {
@@ -113,7 +113,7 @@ fn negative_at<G: Written>(text: &[u8], place: usize) -> Result<Placed<'_, G>, F
 // The byte at `place` is `{`.
 fn grade_at<G: Written>(text: &[u8], place: usize) -> Result<Placed<'_, G>, Fault>
     requires { place < length text.now }
-    ensures { seen result ≡ grade_at reading text.now place }
+    ensures { seen result ≡ grade_at G.reading text.now place }
 {
     let close = run_end(text, place + 1, Class::Inside);
     if close >= text.len() {

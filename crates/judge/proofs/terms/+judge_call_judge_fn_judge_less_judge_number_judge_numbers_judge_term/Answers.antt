@@ -18,112 +18,112 @@ use Rattle.judge.proofs.Chains.{broke, second_fails, no_number}
 use Rattle.judge.proofs.Exits.{refused_judges, refused_uses, number_later, name_exit, literal_exit, number_exit, numbers_exit, not_function_here, arrow_there, argument_fails_here, argument_differs_here, call_exit, body_fails_here, binder_fails_here, fn_exit, branch_fails_here, other_fails_here, branches_differ_here, less_exit}
 use Rattle.judge.proofs.terms.+judge_call_judge_fn_judge_less_judge_number_judge_numbers_judge_term.Goals as goal
 
-pub judge-call-returns-in-default : goal.judge-call-returns-in-default
-judge-call-returns-in-default g t c =
+pub judge_call-returns-in_default : goal.judge_call-returns-in_default
+judge_call-returns-in_default g t c =
     let a = g.G.Algebra in
     let list = c.args.grades.now in
     let tables = tables_of c.args.program.now in
     let context = c.args.context.now in
     let types = vec_items c.args.types.now.types in
-    let first = c.in-ok-called.ensures in
+    let first = c.in_ok-called.ensures in
     let placed = node_place tables _ _ c.args.program.now.nsound c.args.function c.requires.there.0 c.index.result.now c.index.ensures a.nil list in
-    refused_judges a list context (term_in a.nil list tables 0 (Call c.args.function c.args.argument)) types (vec_items c.judge-term.new.types.types) c.refused.result c.judge-term.new.usage (c.refused.ensures ∙ ap (λ p. Err (fault WrongType p)) (sym placed))
-    (not_function_here a list context 0 (term_at a.nil list tables c.args.function) (term_at a.nil list tables c.args.argument) c.requires.ready first c.in-default.is)
+    refused_judges a list context (term_in a.nil list tables 0 (Call c.args.function c.args.argument)) types (vec_items c.judge_term.new.types.types) c.refused.result c.judge_term.new.usage (c.refused.ensures ∙ ap (λ p. Err (fault WrongType p)) (sym placed))
+    (not_function_here a list context 0 (term_at a.nil list tables c.args.function) (term_at a.nil list tables c.args.argument) c.requires.ready first c.in_default.is)
 
-pub judge-call-judge-term-requires-2 : goal.judge-call-judge-term-requires-2
-judge-call-judge-term-requires-2 g t c κs within =
+pub judge_call-judge_term-requires-2 : goal.judge_call-judge_term-requires-2
+judge_call-judge_term-requires-2 g t c κs within =
     let a = g.G.Algebra in
     let list = c.args.grades.now in
     let tables = tables_of c.args.program.now in
     let context = c.args.context.now in
     let types = vec_items c.args.types.now.types in
-    let first = c.in-ok-called.ensures in
+    let first = c.in_ok-called.ensures in
     (search rules, (search rules, (search rules, (c.requires.there.1, ready_next c.requires.ready first.grows.0 (term_at a.nil list tables c.args.argument) (omega arith) (omega arith) (omega arith)))))
 
-pub judge-call-returns-in-err-given : goal.judge-call-returns-in-err-given
-judge-call-returns-in-err-given g t c =
+pub judge_call-returns-in_err-given : goal.judge_call-returns-in_err-given
+judge_call-returns-in_err-given g t c =
     let a = g.G.Algebra in
     let list = c.args.grades.now in
     let tables = tables_of c.args.program.now in
     let context = c.args.context.now in
     let types = vec_items c.args.types.now.types in
-    let first = c.in-ok-called.ensures in
-    refused_judges a list context (term_in a.nil list tables 0 (Call c.args.function c.args.argument)) types (vec_items c.judge-term-2.new.types.types) c.from-residual-in-err-given.result c.judge-term.new.usage (broke c.from-residual-in-err-given.result c.from-residual-in-err-given.ensures.1)
-    (argument_fails_here a list context 0 (term_at a.nil list tables c.args.function) (term_at a.nil list tables c.args.argument) c.requires.ready first c.in-To.grade c.in-To.from c.in-To.to c.in-To.is c.in-err-given.ensures.answer)
+    let first = c.in_ok-called.ensures in
+    refused_judges a list context (term_in a.nil list tables 0 (Call c.args.function c.args.argument)) types (vec_items c.judge_term-2.new.types.types) c.from_residual-in_err-given.result c.judge_term.new.usage (broke c.from_residual-in_err-given.result c.from_residual-in_err-given.ensures.1)
+    (argument_fails_here a list context 0 (term_at a.nil list tables c.args.function) (term_at a.nil list tables c.args.argument) c.requires.ready first c.in-To.grade c.in-To.from c.in-To.to c.in-To.is c.in_err-given.ensures.answer)
 
-pub judge-call-get-due-requires : goal.judge-call-get-due-requires
-judge-call-get-due-requires g t c =
+pub judge_call-get-due-requires : goal.judge_call-get-due-requires
+judge_call-get-due-requires g t c =
     let a = g.G.Algebra in
     let list = c.args.grades.now in
     let tables = tables_of c.args.program.now in
     let context = c.args.context.now in
     let types = vec_items c.args.types.now.types in
-    let first = c.in-ok-called.ensures in
-    let second = c.in-ok-given.ensures in
+    let first = c.in_ok-called.ensures in
+    let second = c.in_ok-given.ensures in
     let there = arrow_there a list context 0 (term_at a.nil list tables c.args.function) (term_at a.nil list tables c.args.argument) c.requires.ready first c.in-To.grade c.in-To.from c.in-To.to c.in-To.is in
     let longer = grown_longer second.grows.0 in
     omega (arith, there.0)
 
-pub judge-call-same-requires : goal.judge-call-same-requires
-judge-call-same-requires g t c =
+pub judge_call-same-requires : goal.judge_call-same-requires
+judge_call-same-requires g t c =
     let a = g.G.Algebra in
     let list = c.args.grades.now in
     let tables = tables_of c.args.program.now in
     let context = c.args.context.now in
     let types = vec_items c.args.types.now.types in
-    let first = c.in-ok-called.ensures in
-    let second = c.in-ok-given.ensures in
+    let first = c.in_ok-called.ensures in
+    let second = c.in_ok-given.ensures in
     let there = arrow_there a list context 0 (term_at a.nil list tables c.args.function) (term_at a.nil list tables c.args.argument) c.requires.ready first c.in-To.grade c.in-To.from c.in-To.to c.in-To.is in
     let longer = grown_longer second.grows.0 in
-    let more = (vec_items c.judge-term-2.new.types.types) in
+    let more = (vec_items c.judge_term-2.new.types.types) in
     let below : c.in-To.from < length more = omega (arith, there.0) in
     record {
       long = c.requires.ready.long;
       left = second.grows.1;
-      right = ap (type_sound 256 (length more)) c.get-due.ensures ∙ sound_wider 256 256 c.in-To.from (length more) (get_or more c.in-To.from Num) (omega arith) (omega arith) (c.judge-term-2.new.types.sound c.in-To.from below);
+      right = ap (type_sound 256 (length more)) c.get-due.ensures ∙ sound_wider 256 256 c.in-To.from (length more) (get_or more c.in-To.from Num) (omega arith) (omega arith) (c.judge_term-2.new.types.sound c.in-To.from below);
     }
 
-pub judge-call-returns-then-not-same : goal.judge-call-returns-then-not-same
-judge-call-returns-then-not-same g t c =
+pub judge_call-returns-then-not-same : goal.judge_call-returns-then-not-same
+judge_call-returns-then-not-same g t c =
     let a = g.G.Algebra in
     let list = c.args.grades.now in
     let tables = tables_of c.args.program.now in
     let context = c.args.context.now in
     let types = vec_items c.args.types.now.types in
-    let first = c.in-ok-called.ensures in
-    let second = c.in-ok-given.ensures in
+    let first = c.in_ok-called.ensures in
+    let second = c.in_ok-given.ensures in
     let placed = node_place tables _ _ c.args.program.now.nsound c.args.argument c.requires.there.1 c.index-then-not-same.result.now c.index-then-not-same.ensures a.nil list in
-    refused_judges a list context (term_in a.nil list tables 0 (Call c.args.function c.args.argument)) types (vec_items c.judge-term-2.new.types.types) c.refused-then-not-same.result c.judge-term.new.usage (c.refused-then-not-same.ensures ∙ ap (λ p. Err (fault TypesDiffer p)) (sym placed))
-    (argument_differs_here a list context 0 (term_at a.nil list tables c.args.function) (term_at a.nil list tables c.args.argument) c.requires.ready first c.in-To.grade c.in-To.from c.in-To.to c.in-To.is second c.judge-term-2.new.types.sound c.get-due.ensures c.same.ensures c.if-not-same.true)
+    refused_judges a list context (term_in a.nil list tables 0 (Call c.args.function c.args.argument)) types (vec_items c.judge_term-2.new.types.types) c.refused-then-not-same.result c.judge_term.new.usage (c.refused-then-not-same.ensures ∙ ap (λ p. Err (fault TypesDiffer p)) (sym placed))
+    (argument_differs_here a list context 0 (term_at a.nil list tables c.args.function) (term_at a.nil list tables c.args.argument) c.requires.ready first c.in-To.grade c.in-To.from c.in-To.to c.in-To.is second c.judge_term-2.new.types.sound c.get-due.ensures c.same.ensures c.if-not-same.true)
 
-pub judge-call-get-requires : goal.judge-call-get-requires
-judge-call-get-requires g t c =
+pub judge_call-get-requires : goal.judge_call-get-requires
+judge_call-get-requires g t c =
     let a = g.G.Algebra in
     let list = c.args.grades.now in
     let tables = tables_of c.args.program.now in
     let context = c.args.context.now in
     let types = vec_items c.args.types.now.types in
-    let first = c.in-ok-called.ensures in
-    let second = c.in-ok-given.ensures in
+    let first = c.in_ok-called.ensures in
+    let second = c.in_ok-given.ensures in
     let there = arrow_there a list context 0 (term_at a.nil list tables c.args.function) (term_at a.nil list tables c.args.argument) c.requires.ready first c.in-To.grade c.in-To.from c.in-To.to c.in-To.is in
     let longer = grown_longer second.grows.0 in
     omega (arith, there.1)
 
-pub judge-call-returns : goal.judge-call-returns
-judge-call-returns g t c =
+pub judge_call-returns : goal.judge_call-returns
+judge_call-returns g t c =
     let a = g.G.Algebra in
     let list = c.args.grades.now in
     let tables = tables_of c.args.program.now in
     let context = c.args.context.now in
     let types = vec_items c.args.types.now.types in
-    let first = c.in-ok-called.ensures in
-    let second = c.in-ok-given.ensures in
+    let first = c.in_ok-called.ensures in
+    let second = c.in_ok-given.ensures in
     let there = arrow_there a list context 0 (term_at a.nil list tables c.args.function) (term_at a.nil list tables c.args.argument) c.requires.ready first c.in-To.grade c.in-To.from c.in-To.to c.in-To.is in
     let read = get_or_read list c.in-To.grade c.index-grades-grade.result (omega (arith, there.2, c.requires.ready.long)) c.index-grades-grade.is a.nil in
-    call_exit a list context 0 (term_at a.nil list tables c.args.function) (term_at a.nil list tables c.args.argument) c.requires.ready first c.in-To.grade c.in-To.from c.in-To.to c.in-To.is second c.judge-term-2.new.types.sound c.get-due.ensures c.same.ensures c.scale.new.usage c.if-not-same.false c.get.ensures read c.scale.ensures c.combine-with.ensures
+    call_exit a list context 0 (term_at a.nil list tables c.args.function) (term_at a.nil list tables c.args.argument) c.requires.ready first c.in-To.grade c.in-To.from c.in-To.to c.in-To.is second c.judge_term-2.new.types.sound c.get-due.ensures c.same.ensures c.scale.new.usage c.if-not-same.false c.get.ensures read c.scale.ensures c.combine_with.ensures
 
-pub judge-fn-judge-term-requires : goal.judge-fn-judge-term-requires
-judge-fn-judge-term-requires g t c κs within =
+pub judge_fn-judge_term-requires : goal.judge_fn-judge_term-requires
+judge_fn-judge_term-requires g t c κs within =
     let a = g.G.Algebra in
     let list = c.args.grades.now in
     let tables = tables_of c.args.program.now in
@@ -138,8 +138,8 @@ judge-fn-judge-term-requires g t c κs within =
     let types-is : inner.types ≡ set context.types context.count (get_or tables.types c.args.domain Num) = c.with-inner.ensures.0 ∙ ap (set context.types context.count) domain in
     (search rules, (search rules, (search rules, (c.requires.there.2, ready_inside c.args.domain c.requires.ready declared below long types-is c.with-inner.ensures.1))))
 
-pub judge-fn-returns-in-err-result : goal.judge-fn-returns-in-err-result
-judge-fn-returns-in-err-result g t c =
+pub judge_fn-returns-in_err-result : goal.judge_fn-returns-in_err-result
+judge_fn-returns-in_err-result g t c =
     let a = g.G.Algebra in
     let list = c.args.grades.now in
     let tables = tables_of c.args.program.now in
@@ -154,11 +154,11 @@ judge-fn-returns-in-err-result g t c =
     let types-is : inner.types ≡ set context.types context.count (get_or tables.types c.args.domain Num) = c.with-inner.ensures.0 ∙ ap (set context.types context.count) domain in
     let inside = context_inside c.args.domain a.nil c.requires.ready c.args.types.now.sound below long types-is c.with-inner.ensures.1 in
     let n = get_or tables.binders c.args.binder no_binder in
-    refused_judges a list context (term_in a.nil list tables 0 (Fn c.args.binder c.args.domain c.args.body)) types (vec_items c.judge-term.new.types.types) c.from-residual.result c.judge-term.new.usage (broke c.from-residual.result c.from-residual.ensures.1)
-    (body_fails_here a list context 0 (label_of [] n) (get_or list n.grade a.nil) c.args.domain (term_at a.nil list tables c.args.body) inner c.requires.ready inside c.in-err-result.ensures.answer)
+    refused_judges a list context (term_in a.nil list tables 0 (Fn c.args.binder c.args.domain c.args.body)) types (vec_items c.judge_term.new.types.types) c.from_residual.result c.judge_term.new.usage (broke c.from_residual.result c.from_residual.ensures.1)
+    (body_fails_here a list context 0 (label_of [] n) (get_or list n.grade a.nil) c.args.domain (term_at a.nil list tables c.args.body) inner c.requires.ready inside c.in_err-result.ensures.answer)
 
-pub judge-fn-offset_bounds-grades-grade : goal.judge-fn-offset_bounds-grades-grade
-judge-fn-offset_bounds-grades-grade g t c =
+pub judge_fn-offset_bounds-grades-grade : goal.judge_fn-offset_bounds-grades-grade
+judge_fn-offset_bounds-grades-grade g t c =
     let a = g.G.Algebra in
     let list = c.args.grades.now in
     let tables = tables_of c.args.program.now in
@@ -172,8 +172,8 @@ judge-fn-offset_bounds-grades-grade g t c =
     let bound : c.index-2.result.now.grade < length list = omega (arith, program.gradesfew, c.requires.ready.long) in
     search rules
 
-pub judge-fn-bounds-grades-grade : goal.judge-fn-bounds-grades-grade
-judge-fn-bounds-grades-grade g t c =
+pub judge_fn-bounds-grades-grade : goal.judge_fn-bounds-grades-grade
+judge_fn-bounds-grades-grade g t c =
     let a = g.G.Algebra in
     let list = c.args.grades.now in
     let tables = tables_of c.args.program.now in
@@ -186,8 +186,8 @@ judge-fn-bounds-grades-grade g t c =
     let same : c.index-2.result.now.grade ≡ n.grade = ap (λ b. b.grade) read in
     omega (arith, program.gradesfew, c.requires.ready.long)
 
-pub judge-fn-returns-then-not-covers : goal.judge-fn-returns-then-not-covers
-judge-fn-returns-then-not-covers g t c =
+pub judge_fn-returns-then-not-covers : goal.judge_fn-returns-then-not-covers
+judge_fn-returns-then-not-covers g t c =
     let a = g.G.Algebra in
     let list = c.args.grades.now in
     let tables = tables_of c.args.program.now in
@@ -207,15 +207,15 @@ judge-fn-returns-then-not-covers g t c =
     let same : c.index-2.result.now.grade ≡ n.grade = ap (λ b. b.grade) read in
     let at = c.index-2.result.now.grade in
     let declared-grade = get_or_read list at c.index-grades-grade.result (omega (arith, program.gradesfew, c.requires.ready.long)) c.index-grades-grade.is a.nil ∙ ap (λ i. get_or list i a.nil) same in
-    let wide : length c.judge-term.new.usage ≡ 32 = search rules in
-    let used = get_or_default c.judge-term.new.usage context.count c.index-usage-context.result a.nil (omega (arith, c.requires.ready.levels)) in
-    let test : c.covers.result ≡ a.permits c.index-grades-grade.result (get_or c.judge-term.new.usage context.count c.index-usage-context.result) = c.covers.ensures in
+    let wide : length c.judge_term.new.usage ≡ 32 = search rules in
+    let used = get_or_default c.judge_term.new.usage context.count c.index-usage-context.result a.nil (omega (arith, c.requires.ready.levels)) in
+    let test : c.covers.result ≡ a.permits c.index-grades-grade.result (get_or c.judge_term.new.usage context.count c.index-usage-context.result) = c.covers.ensures in
     let tested = test ∙ (λ k. a.permits (declared-grade k) (used k)) in
-    refused_judges a list context (term_in a.nil list tables 0 (Fn c.args.binder c.args.domain c.args.body)) types (vec_items c.judge-term.new.types.types) c.refused.result c.judge-term.new.usage (c.refused.ensures ∙ ap (λ b. Err (fault NotCovered b.place)) read)
-    (binder_fails_here a list context 0 (label_of [] n) (get_or list n.grade a.nil) c.args.domain (term_at a.nil list tables c.args.body) inner c.requires.ready inside c.with-inner.ensures.1 c.in-ok-result.ensures tested c.if-not-covers.true)
+    refused_judges a list context (term_in a.nil list tables 0 (Fn c.args.binder c.args.domain c.args.body)) types (vec_items c.judge_term.new.types.types) c.refused.result c.judge_term.new.usage (c.refused.ensures ∙ ap (λ b. Err (fault NotCovered b.place)) read)
+    (binder_fails_here a list context 0 (label_of [] n) (get_or list n.grade a.nil) c.args.domain (term_at a.nil list tables c.args.body) inner c.requires.ready inside c.with-inner.ensures.1 c.in_ok-result.ensures tested c.if-not-covers.true)
 
-pub judge-fn-returns : goal.judge-fn-returns
-judge-fn-returns g t c =
+pub judge_fn-returns : goal.judge_fn-returns
+judge_fn-returns g t c =
     let a = g.G.Algebra in
     let list = c.args.grades.now in
     let tables = tables_of c.args.program.now in
@@ -235,100 +235,100 @@ judge-fn-returns g t c =
     let same : c.index-2.result.now.grade ≡ n.grade = ap (λ b. b.grade) read in
     let at = c.index-2.result.now.grade in
     let declared-grade = get_or_read list at c.index-grades-grade.result (omega (arith, program.gradesfew, c.requires.ready.long)) c.index-grades-grade.is a.nil ∙ ap (λ i. get_or list i a.nil) same in
-    let wide : length c.judge-term.new.usage ≡ 32 = search rules in
-    let used = get_or_default c.judge-term.new.usage context.count c.index-usage-context.result a.nil (omega (arith, c.requires.ready.levels)) in
-    let test : c.covers.result ≡ a.permits c.index-grades-grade.result (get_or c.judge-term.new.usage context.count c.index-usage-context.result) = c.covers.ensures in
+    let wide : length c.judge_term.new.usage ≡ 32 = search rules in
+    let used = get_or_default c.judge_term.new.usage context.count c.index-usage-context.result a.nil (omega (arith, c.requires.ready.levels)) in
+    let test : c.covers.result ≡ a.permits c.index-grades-grade.result (get_or c.judge_term.new.usage context.count c.index-usage-context.result) = c.covers.ensures in
     let tested = test ∙ (λ k. a.permits (declared-grade k) (used k)) in
-    fn_exit a list context 0 (label_of [] n) (get_or list n.grade a.nil) c.args.domain (term_at a.nil list tables c.args.body) inner c.requires.ready inside c.with-inner.ensures.1 c.in-ok-result.ensures tested at c.add-to.result (vec_items c.add-to.new.self.types) c.if-not-covers.false (omega (arith, program.gradesfew)) (ap (λ i. get_or list i a.nil) (sym same)) below c.add-to.ensures.index c.add-to.ensures.after c.add-to.new.self.sound
+    fn_exit a list context 0 (label_of [] n) (get_or list n.grade a.nil) c.args.domain (term_at a.nil list tables c.args.body) inner c.requires.ready inside c.with-inner.ensures.1 c.in_ok-result.ensures tested at c.add-to.result (vec_items c.add-to.new.self.types) c.if-not-covers.false (omega (arith, program.gradesfew)) (ap (λ i. get_or list i a.nil) (sym same)) below c.add-to.ensures.index c.add-to.ensures.after c.add-to.new.self.sound
 
-pub judge-less-judge-term-requires : goal.judge-less-judge-term-requires
-judge-less-judge-term-requires g t c κs within =
+pub judge_less-judge_term-requires : goal.judge_less-judge_term-requires
+judge_less-judge_term-requires g t c κs within =
     let a = g.G.Algebra in
     let list = c.args.grades.now in
     let tables = tables_of c.args.program.now in
     let context = c.args.context.now in
     let types = vec_items c.args.types.now.types in
-    let first = c.in-ok-judge-numbers.ensures in
+    let first = c.in_ok-judge_numbers.ensures in
     (search rules, (search rules, (search rules, (c.requires.there.2, ready_next c.requires.ready first.grows (term_at a.nil list tables c.args.below) (omega arith) (omega arith) (omega arith)))))
 
-pub judge-less-returns-in-err-branch : goal.judge-less-returns-in-err-branch
-judge-less-returns-in-err-branch g t c =
+pub judge_less-returns-in_err-branch : goal.judge_less-returns-in_err-branch
+judge_less-returns-in_err-branch g t c =
     let a = g.G.Algebra in
     let list = c.args.grades.now in
     let tables = tables_of c.args.program.now in
     let context = c.args.context.now in
     let types = vec_items c.args.types.now.types in
-    let first = c.in-ok-judge-numbers.ensures in
-    refused_judges a list context (term_in a.nil list tables 0 (Less c.args.left c.args.right c.args.below c.args.otherwise)) types (vec_items c.judge-term.new.types.types) c.from-residual-in-err-branch.result c.judge-numbers.new.usage (broke c.from-residual-in-err-branch.result c.from-residual-in-err-branch.ensures.1)
-    (branch_fails_here a list context 0 (term_at a.nil list tables c.args.left) (term_at a.nil list tables c.args.right) (term_at a.nil list tables c.args.below) (term_at a.nil list tables c.args.otherwise) c.requires.ready first c.in-err-branch.ensures.answer)
+    let first = c.in_ok-judge_numbers.ensures in
+    refused_judges a list context (term_in a.nil list tables 0 (Less c.args.left c.args.right c.args.below c.args.otherwise)) types (vec_items c.judge_term.new.types.types) c.from_residual-in_err-branch.result c.judge_numbers.new.usage (broke c.from_residual-in_err-branch.result c.from_residual-in_err-branch.ensures.1)
+    (branch_fails_here a list context 0 (term_at a.nil list tables c.args.left) (term_at a.nil list tables c.args.right) (term_at a.nil list tables c.args.below) (term_at a.nil list tables c.args.otherwise) c.requires.ready first c.in_err-branch.ensures.answer)
 
-pub judge-less-judge-term-requires-2 : goal.judge-less-judge-term-requires-2
-judge-less-judge-term-requires-2 g t c κs within =
+pub judge_less-judge_term-requires-2 : goal.judge_less-judge_term-requires-2
+judge_less-judge_term-requires-2 g t c κs within =
     let a = g.G.Algebra in
     let list = c.args.grades.now in
     let tables = tables_of c.args.program.now in
     let context = c.args.context.now in
     let types = vec_items c.args.types.now.types in
-    let first = c.in-ok-judge-numbers.ensures in
-    let second = c.in-ok-branch.ensures in
+    let first = c.in_ok-judge_numbers.ensures in
+    let second = c.in_ok-branch.ensures in
     (search rules, (search rules, (search rules, (c.requires.there.3, ready_next c.requires.ready (grown_on first.grows second.grows.0) (term_at a.nil list tables c.args.otherwise) (omega arith) (omega arith) (omega arith)))))
 
-pub judge-less-returns-in-err-other : goal.judge-less-returns-in-err-other
-judge-less-returns-in-err-other g t c =
+pub judge_less-returns-in_err-other : goal.judge_less-returns-in_err-other
+judge_less-returns-in_err-other g t c =
     let a = g.G.Algebra in
     let list = c.args.grades.now in
     let tables = tables_of c.args.program.now in
     let context = c.args.context.now in
     let types = vec_items c.args.types.now.types in
-    let first = c.in-ok-judge-numbers.ensures in
-    let second = c.in-ok-branch.ensures in
-    refused_judges a list context (term_in a.nil list tables 0 (Less c.args.left c.args.right c.args.below c.args.otherwise)) types (vec_items c.judge-term-2.new.types.types) c.from-residual-in-err-other.result c.judge-numbers.new.usage (broke c.from-residual-in-err-other.result c.from-residual-in-err-other.ensures.1)
-    (other_fails_here a list context 0 (term_at a.nil list tables c.args.left) (term_at a.nil list tables c.args.right) (term_at a.nil list tables c.args.below) (term_at a.nil list tables c.args.otherwise) c.requires.ready first second c.in-err-other.ensures.answer)
+    let first = c.in_ok-judge_numbers.ensures in
+    let second = c.in_ok-branch.ensures in
+    refused_judges a list context (term_in a.nil list tables 0 (Less c.args.left c.args.right c.args.below c.args.otherwise)) types (vec_items c.judge_term-2.new.types.types) c.from_residual-in_err-other.result c.judge_numbers.new.usage (broke c.from_residual-in_err-other.result c.from_residual-in_err-other.ensures.1)
+    (other_fails_here a list context 0 (term_at a.nil list tables c.args.left) (term_at a.nil list tables c.args.right) (term_at a.nil list tables c.args.below) (term_at a.nil list tables c.args.otherwise) c.requires.ready first second c.in_err-other.ensures.answer)
 
-pub judge-less-same-requires : goal.judge-less-same-requires
-judge-less-same-requires g t c =
+pub judge_less-same-requires : goal.judge_less-same-requires
+judge_less-same-requires g t c =
     let a = g.G.Algebra in
     let list = c.args.grades.now in
     let tables = tables_of c.args.program.now in
     let context = c.args.context.now in
     let types = vec_items c.args.types.now.types in
-    let first = c.in-ok-judge-numbers.ensures in
-    let second = c.in-ok-branch.ensures in
-    let third = c.in-ok-other.ensures in
+    let first = c.in_ok-judge_numbers.ensures in
+    let second = c.in_ok-branch.ensures in
+    let third = c.in_ok-other.ensures in
     record {
       long = c.requires.ready.long;
       left = third.grows.1;
-      right = sound_wider 256 256 (length (vec_items c.judge-term.new.types.types)) (length (vec_items c.judge-term-2.new.types.types)) c.in-ok-branch.branch (omega arith) (grown_longer third.grows.0) second.grows.1;
+      right = sound_wider 256 256 (length (vec_items c.judge_term.new.types.types)) (length (vec_items c.judge_term-2.new.types.types)) c.in_ok-branch.branch (omega arith) (grown_longer third.grows.0) second.grows.1;
     }
 
-pub judge-less-returns-then-not-same : goal.judge-less-returns-then-not-same
-judge-less-returns-then-not-same g t c =
+pub judge_less-returns-then-not-same : goal.judge_less-returns-then-not-same
+judge_less-returns-then-not-same g t c =
     let a = g.G.Algebra in
     let list = c.args.grades.now in
     let tables = tables_of c.args.program.now in
     let context = c.args.context.now in
     let types = vec_items c.args.types.now.types in
-    let first = c.in-ok-judge-numbers.ensures in
-    let second = c.in-ok-branch.ensures in
-    let third = c.in-ok-other.ensures in
+    let first = c.in_ok-judge_numbers.ensures in
+    let second = c.in_ok-branch.ensures in
+    let third = c.in_ok-other.ensures in
     let placed = node_place tables _ _ c.args.program.now.nsound c.args.otherwise c.requires.there.3 c.index.result.now c.index.ensures a.nil list in
-    refused_judges a list context (term_in a.nil list tables 0 (Less c.args.left c.args.right c.args.below c.args.otherwise)) types (vec_items c.judge-term-2.new.types.types) c.refused.result c.judge-numbers.new.usage (c.refused.ensures ∙ ap (λ p. Err (fault TypesDiffer p)) (sym placed))
+    refused_judges a list context (term_in a.nil list tables 0 (Less c.args.left c.args.right c.args.below c.args.otherwise)) types (vec_items c.judge_term-2.new.types.types) c.refused.result c.judge_numbers.new.usage (c.refused.ensures ∙ ap (λ p. Err (fault TypesDiffer p)) (sym placed))
     (branches_differ_here a list context 0 (term_at a.nil list tables c.args.left) (term_at a.nil list tables c.args.right) (term_at a.nil list tables c.args.below) (term_at a.nil list tables c.args.otherwise) c.requires.ready first second third c.same.ensures c.if-not-same.true)
 
-pub judge-less-returns : goal.judge-less-returns
-judge-less-returns g t c =
+pub judge_less-returns : goal.judge_less-returns
+judge_less-returns g t c =
     let a = g.G.Algebra in
     let list = c.args.grades.now in
     let tables = tables_of c.args.program.now in
     let context = c.args.context.now in
     let types = vec_items c.args.types.now.types in
-    let first = c.in-ok-judge-numbers.ensures in
-    let second = c.in-ok-branch.ensures in
-    let third = c.in-ok-other.ensures in
-    less_exit a list context 0 (term_at a.nil list tables c.args.left) (term_at a.nil list tables c.args.right) (term_at a.nil list tables c.args.below) (term_at a.nil list tables c.args.otherwise) c.requires.ready first second third c.same.ensures c.combine-with.new.usage c.if-not-same.false c.combine-with.ensures c.combine-with-2.ensures
+    let first = c.in_ok-judge_numbers.ensures in
+    let second = c.in_ok-branch.ensures in
+    let third = c.in_ok-other.ensures in
+    less_exit a list context 0 (term_at a.nil list tables c.args.left) (term_at a.nil list tables c.args.right) (term_at a.nil list tables c.args.below) (term_at a.nil list tables c.args.otherwise) c.requires.ready first second third c.same.ensures c.combine_with.new.usage c.if-not-same.false c.combine_with.ensures c.combine_with-2.ensures
 
-pub judge-number-returns-in-To : goal.judge-number-returns-in-To
-judge-number-returns-in-To g t c =
+pub judge_number-returns-in-To : goal.judge_number-returns-in-To
+judge_number-returns-in-To g t c =
     let a = g.G.Algebra in
     let list = c.args.grades.now in
     let tables = tables_of c.args.program.now in
@@ -336,45 +336,45 @@ judge-number-returns-in-To g t c =
     let types = vec_items c.args.types.now.types in
     let u = term_at a.nil list tables c.args.node in
     let placed = node_place tables _ _ c.args.program.now.nsound c.args.node c.requires.there c.index.result.now c.index.ensures a.nil list in
-    refused_uses a list context (number_judged a list context types u) _ types (vec_items c.judge-term.new.types.types) c.refused.result c.judge-term.new.usage
+    refused_uses a list context (number_judged a list context types u) _ types (vec_items c.judge_term.new.types.types) c.refused.result c.judge_term.new.usage
     (c.refused.ensures ∙ ap (λ p. Err (fault WrongType p)) (sym placed))
-    (no_number a (context_types a.nil list types context) u (ap (λ s. Ok (type_in a.nil list (vec_items c.judge-term.new.types.types) s, newest a.nil c.judge-term.new.usage context.count)) (sym c.in-To.is) ∙ c.in-ok-judge-term.ensures.answer))
+    (no_number a (context_types a.nil list types context) u (ap (λ s. Ok (type_in a.nil list (vec_items c.judge_term.new.types.types) s, newest a.nil c.judge_term.new.usage context.count)) (sym c.in-To.is) ∙ c.in_ok-judge_term.ensures.answer))
 
-pub judge-numbers-judge-number-requires-2 : goal.judge-numbers-judge-number-requires-2
-judge-numbers-judge-number-requires-2 g t c κs within =
+pub judge_numbers-judge_number-requires-2 : goal.judge_numbers-judge_number-requires-2
+judge_numbers-judge_number-requires-2 g t c κs within =
     let a = g.G.Algebra in
     let list = c.args.grades.now in
     let tables = tables_of c.args.program.now in
     let context = c.args.context.now in
     let types = vec_items c.args.types.now.types in
-    let first = c.in-ok-judge-number.ensures in
+    let first = c.in_ok-judge_number.ensures in
     (search rules, (search rules, (search rules, (c.requires.there.1, ready_next c.requires.ready first.grows (term_at a.nil list tables c.args.right) (omega arith) (omega arith) (omega arith)))))
 
-pub judge-numbers-returns-in-err-judge-number-2 : goal.judge-numbers-returns-in-err-judge-number-2
-judge-numbers-returns-in-err-judge-number-2 g t c =
+pub judge_numbers-returns-in_err-judge_number-2 : goal.judge_numbers-returns-in_err-judge_number-2
+judge_numbers-returns-in_err-judge_number-2 g t c =
     let a = g.G.Algebra in
     let list = c.args.grades.now in
     let tables = tables_of c.args.program.now in
     let context = c.args.context.now in
     let types = vec_items c.args.types.now.types in
-    let first = c.in-ok-judge-number.ensures in
+    let first = c.in_ok-judge_number.ensures in
     let left = number_judged a list context types (term_at a.nil list tables c.args.left) in
     let right = number_judged a list context types (term_at a.nil list tables c.args.right) in
-    refused_uses a list context (both a left right) _ types (vec_items c.judge-number-2.new.types.types) c.from-residual-in-err-judge-number-2.result c.judge-number.new.usage
-    (broke c.from-residual-in-err-judge-number-2.result c.from-residual-in-err-judge-number-2.ensures.1)
-    (second_fails a left right first.answer (c.in-err-judge-number-2.ensures.answer ∙ number_later a list context c.requires.ready first.grows (term_at a.nil list tables c.args.right)))
+    refused_uses a list context (both a left right) _ types (vec_items c.judge_number-2.new.types.types) c.from_residual-in_err-judge_number-2.result c.judge_number.new.usage
+    (broke c.from_residual-in_err-judge_number-2.result c.from_residual-in_err-judge_number-2.ensures.1)
+    (second_fails a left right first.answer (c.in_err-judge_number-2.ensures.answer ∙ number_later a list context c.requires.ready first.grows (term_at a.nil list tables c.args.right)))
 
-pub judge-numbers-returns : goal.judge-numbers-returns
-judge-numbers-returns g t c =
+pub judge_numbers-returns : goal.judge_numbers-returns
+judge_numbers-returns g t c =
     let a = g.G.Algebra in
     let list = c.args.grades.now in
     let tables = tables_of c.args.program.now in
     let context = c.args.context.now in
     let types = vec_items c.args.types.now.types in
-    numbers_exit a list context (term_at a.nil list tables c.args.left) (term_at a.nil list tables c.args.right) c.requires.ready c.in-ok-judge-number.ensures c.in-ok-judge-number-2.ensures c.combine-with.ensures
+    numbers_exit a list context (term_at a.nil list tables c.args.left) (term_at a.nil list tables c.args.right) c.requires.ready c.in_ok-judge_number.ensures c.in_ok-judge_number-2.ensures c.combine_with.ensures
 
-pub judge-term-use-once-requires : goal.judge-term-use-once-requires
-judge-term-use-once-requires g t c =
+pub judge_term-use_once-requires : goal.judge_term-use_once-requires
+judge_term-use_once-requires g t c =
     let a = g.G.Algebra in
     let list = c.args.grades.now in
     let tables = tables_of c.args.program.now in
@@ -387,8 +387,8 @@ judge-term-use-once-requires g t c =
     let ready = subst (Ready list tables types context) is c.requires.ready in
     (search rules, (omega (arith, ready.names), omega (arith, ready.levels)))
 
-pub judge-term-type-of-requires : goal.judge-term-type-of-requires
-judge-term-type-of-requires g t c =
+pub judge_term-type_of-requires : goal.judge_term-type_of-requires
+judge_term-type_of-requires g t c =
     let a = g.G.Algebra in
     let list = c.args.grades.now in
     let tables = tables_of c.args.program.now in
@@ -401,8 +401,8 @@ judge-term-type-of-requires g t c =
     let ready = subst (Ready list tables types context) is c.requires.ready in
     record { within = omega (arith, ready.names); few = omega (arith, ready.levels) }
 
-pub judge-term-judge-fn-requires : goal.judge-term-judge-fn-requires
-judge-term-judge-fn-requires g t c κs within =
+pub judge_term-judge_fn-requires : goal.judge_term-judge_fn-requires
+judge_term-judge_fn-requires g t c κs within =
     let a = g.G.Algebra in
     let list = c.args.grades.now in
     let tables = tables_of c.args.program.now in
@@ -417,8 +417,8 @@ judge-term-judge-fn-requires g t c κs within =
     let there : c.in-Fn.body < length tables.nodes = omega (arith, c.requires.there) in
     (search rules, (search rules, (search rules, ((older.0, older.1, there), ready_as (term_in a.nil list tables 0 (Fn c.in-Fn.binder c.in-Fn.domain c.in-Fn.body)) ready (omega arith) (omega arith) (omega arith)))))
 
-pub judge-term-judge-call-requires : goal.judge-term-judge-call-requires
-judge-term-judge-call-requires g t c κs within =
+pub judge_term-judge_call-requires : goal.judge_term-judge_call-requires
+judge_term-judge_call-requires g t c κs within =
     let a = g.G.Algebra in
     let list = c.args.grades.now in
     let tables = tables_of c.args.program.now in
@@ -435,8 +435,8 @@ judge-term-judge-call-requires g t c κs within =
     let x : c.in-Call.argument < length tables.nodes = omega (arith, c.requires.there) in
     (search rules, (search rules, (search rules, ((f, x), ready_as (term_in a.nil list tables 0 (Call c.in-Call.function c.in-Call.argument)) ready (omega arith) (omega arith) (omega arith)))))
 
-pub judge-term-judge-numbers-requires : goal.judge-term-judge-numbers-requires
-judge-term-judge-numbers-requires g t c κs within =
+pub judge_term-judge_numbers-requires : goal.judge_term-judge_numbers-requires
+judge_term-judge_numbers-requires g t c κs within =
     let a = g.G.Algebra in
     let list = c.args.grades.now in
     let tables = tables_of c.args.program.now in
@@ -453,8 +453,8 @@ judge-term-judge-numbers-requires g t c κs within =
     let r : c.in-Add.right < length tables.nodes = omega (arith, c.requires.there) in
     (search rules, (search rules, (search rules, ((l, r), ready_as (term_in a.nil list tables 0 (Add c.in-Add.left c.in-Add.right)) ready (omega arith) (omega arith) (omega arith)))))
 
-pub judge-term-returns-in-err-judge-numbers : goal.judge-term-returns-in-err-judge-numbers
-judge-term-returns-in-err-judge-numbers g t c =
+pub judge_term-returns-in_err-judge_numbers : goal.judge_term-returns-in_err-judge_numbers
+judge_term-returns-in_err-judge_numbers g t c =
     let a = g.G.Algebra in
     let list = c.args.grades.now in
     let tables = tables_of c.args.program.now in
@@ -465,11 +465,11 @@ judge-term-returns-in-err-judge-numbers g t c =
     let older = node_older tables _ _ nodes c.args.node c.requires.there node c.index.ensures (Add c.in-Add.left c.in-Add.right) c.in-Add.is in
     let is = node_term tables _ _ nodes c.args.node c.requires.there node c.index.ensures a.nil list (Add c.in-Add.left c.in-Add.right) c.in-Add.is in
     let ready = subst (Ready list tables types context) is c.requires.ready in
-    refused_judges a list context (term_at a.nil list tables c.args.node) types (vec_items c.judge-numbers.new.types.types) c.from-residual.result c.judge-numbers.new.usage (broke c.from-residual.result c.from-residual.ensures.1)
-    (ap (judged a (context_types a.nil list types context)) is ∙ ends _ _ _ c.in-err-judge-numbers.ensures.answer)
+    refused_judges a list context (term_at a.nil list tables c.args.node) types (vec_items c.judge_numbers.new.types.types) c.from_residual.result c.judge_numbers.new.usage (broke c.from_residual.result c.from_residual.ensures.1)
+    (ap (judged a (context_types a.nil list types context)) is ∙ ends _ _ _ c.in_err-judge_numbers.ensures.answer)
 
-pub judge-term-judge-numbers-requires-in-Sub : goal.judge-term-judge-numbers-requires-in-Sub
-judge-term-judge-numbers-requires-in-Sub g t c κs within =
+pub judge_term-judge_numbers-requires-in-Sub : goal.judge_term-judge_numbers-requires-in-Sub
+judge_term-judge_numbers-requires-in-Sub g t c κs within =
     let a = g.G.Algebra in
     let list = c.args.grades.now in
     let tables = tables_of c.args.program.now in
@@ -486,8 +486,8 @@ judge-term-judge-numbers-requires-in-Sub g t c κs within =
     let r : c.in-Sub.right < length tables.nodes = omega (arith, c.requires.there) in
     (search rules, (search rules, (search rules, ((l, r), ready_as (term_in a.nil list tables 0 (Add c.in-Sub.left c.in-Sub.right)) ready (omega arith) (omega arith) (omega arith)))))
 
-pub judge-term-returns-in-err-judge-numbers-2 : goal.judge-term-returns-in-err-judge-numbers-2
-judge-term-returns-in-err-judge-numbers-2 g t c =
+pub judge_term-returns-in_err-judge_numbers-2 : goal.judge_term-returns-in_err-judge_numbers-2
+judge_term-returns-in_err-judge_numbers-2 g t c =
     let a = g.G.Algebra in
     let list = c.args.grades.now in
     let tables = tables_of c.args.program.now in
@@ -498,11 +498,11 @@ judge-term-returns-in-err-judge-numbers-2 g t c =
     let older = node_older tables _ _ nodes c.args.node c.requires.there node c.index.ensures (Sub c.in-Sub.left c.in-Sub.right) c.in-Sub.is in
     let is = node_term tables _ _ nodes c.args.node c.requires.there node c.index.ensures a.nil list (Sub c.in-Sub.left c.in-Sub.right) c.in-Sub.is in
     let ready = subst (Ready list tables types context) is c.requires.ready in
-    refused_judges a list context (term_at a.nil list tables c.args.node) types (vec_items c.judge-numbers-in-Sub.new.types.types) c.from-residual-in-err-judge-numbers-2.result c.judge-numbers-in-Sub.new.usage (broke c.from-residual-in-err-judge-numbers-2.result c.from-residual-in-err-judge-numbers-2.ensures.1)
-    (ap (judged a (context_types a.nil list types context)) is ∙ ends _ _ _ c.in-err-judge-numbers-2.ensures.answer)
+    refused_judges a list context (term_at a.nil list tables c.args.node) types (vec_items c.judge_numbers-in-Sub.new.types.types) c.from_residual-in_err-judge_numbers-2.result c.judge_numbers-in-Sub.new.usage (broke c.from_residual-in_err-judge_numbers-2.result c.from_residual-in_err-judge_numbers-2.ensures.1)
+    (ap (judged a (context_types a.nil list types context)) is ∙ ends _ _ _ c.in_err-judge_numbers-2.ensures.answer)
 
-pub judge-term-judge-number-requires : goal.judge-term-judge-number-requires
-judge-term-judge-number-requires g t c κs within =
+pub judge_term-judge_number-requires : goal.judge_term-judge_number-requires
+judge_term-judge_number-requires g t c κs within =
     let a = g.G.Algebra in
     let list = c.args.grades.now in
     let tables = tables_of c.args.program.now in
@@ -516,8 +516,8 @@ judge-term-judge-number-requires g t c κs within =
     let part : c.in-Half.part < length tables.nodes = omega (arith, c.requires.there) in
     (search rules, (search rules, (search rules, (part, ready_as (term_at a.nil list tables c.in-Half.part) ready (omega arith) (omega arith) (omega arith)))))
 
-pub judge-term-returns-in-err-judge-number : goal.judge-term-returns-in-err-judge-number
-judge-term-returns-in-err-judge-number g t c =
+pub judge_term-returns-in_err-judge_number : goal.judge_term-returns-in_err-judge_number
+judge_term-returns-in_err-judge_number g t c =
     let a = g.G.Algebra in
     let list = c.args.grades.now in
     let tables = tables_of c.args.program.now in
@@ -528,11 +528,11 @@ judge-term-returns-in-err-judge-number g t c =
     let older = node_older tables _ _ nodes c.args.node c.requires.there node c.index.ensures (Half c.in-Half.part) c.in-Half.is in
     let is = node_term tables _ _ nodes c.args.node c.requires.there node c.index.ensures a.nil list (Half c.in-Half.part) c.in-Half.is in
     let ready = subst (Ready list tables types context) is c.requires.ready in
-    refused_judges a list context (term_at a.nil list tables c.args.node) types (vec_items c.judge-number.new.types.types) c.from-residual-in-err-judge-number.result c.judge-number.new.usage (broke c.from-residual-in-err-judge-number.result c.from-residual-in-err-judge-number.ensures.1)
-    (ap (judged a (context_types a.nil list types context)) is ∙ ends _ _ _ c.in-err-judge-number.ensures.answer)
+    refused_judges a list context (term_at a.nil list tables c.args.node) types (vec_items c.judge_number.new.types.types) c.from_residual-in_err-judge_number.result c.judge_number.new.usage (broke c.from_residual-in_err-judge_number.result c.from_residual-in_err-judge_number.ensures.1)
+    (ap (judged a (context_types a.nil list types context)) is ∙ ends _ _ _ c.in_err-judge_number.ensures.answer)
 
-pub judge-term-judge-less-requires : goal.judge-term-judge-less-requires
-judge-term-judge-less-requires g t c κs within =
+pub judge_term-judge_less-requires : goal.judge_term-judge_less-requires
+judge_term-judge_less-requires g t c κs within =
     let a = g.G.Algebra in
     let list = c.args.grades.now in
     let tables = tables_of c.args.program.now in
@@ -553,8 +553,8 @@ judge-term-judge-less-requires g t c κs within =
     let o : c.in-Less.otherwise < length tables.nodes = omega (arith, c.requires.there) in
     (search rules, (search rules, (search rules, ((l, r, b, o), ready_as (term_in a.nil list tables 0 (Less c.in-Less.left c.in-Less.right c.in-Less.below c.in-Less.otherwise)) ready (omega arith) (omega arith) (omega arith)))))
 
-pub judge-term-returns-in-Name : goal.judge-term-returns-in-Name
-judge-term-returns-in-Name g t c =
+pub judge_term-returns-in-Name : goal.judge_term-returns-in-Name
+judge_term-returns-in-Name g t c =
     let a = g.G.Algebra in
     let list = c.args.grades.now in
     let tables = tables_of c.args.program.now in
@@ -568,10 +568,10 @@ judge-term-returns-in-Name g t c =
     let k = c.in-Name.k in
     let below : k < context.count = omega (arith, ready.names) in
     let sound = ap (type_sound 256 (length types)) c.type_of.ensures ∙ sound_wider 256 256 (length tables.types) (length types) (get_or context.types (context.count - 1 - k) Num) (omega arith) (declared_first ready) (ready.sound (context.count - 1 - k) (omega arith)) in
-    subst (λ u. Judges a list context u types types (Ok c.type_of.result) c.use-once.new.usage) (sym is) (name_exit a list context types (omega (arith, ready.levels)) node.place k below c.type_of.ensures c.use-once.ensures sound)
+    subst (λ u. Judges a list context u types types (Ok c.type_of.result) c.use_once.new.usage) (sym is) (name_exit a list context types (omega (arith, ready.levels)) node.place k below c.type_of.ensures c.use_once.ensures sound)
 
-pub judge-term-returns-in-Number : goal.judge-term-returns-in-Number
-judge-term-returns-in-Number g t c =
+pub judge_term-returns-in-Number : goal.judge_term-returns-in-Number
+judge_term-returns-in-Number g t c =
     let a = g.G.Algebra in
     let list = c.args.grades.now in
     let tables = tables_of c.args.program.now in
@@ -582,10 +582,10 @@ judge-term-returns-in-Number g t c =
     let older = node_older tables _ _ nodes c.args.node c.requires.there node c.index.ensures (Number c.in-Number.field-0) c.in-Number.is in
     let is = node_term tables _ _ nodes c.args.node c.requires.there node c.index.ensures a.nil list (Number c.in-Number.field-0) c.in-Number.is in
     let ready = subst (Ready list tables types context) is c.requires.ready in
-    subst (λ u. Judges a list context u types types (Ok Num) c.use-none.new.usage) (sym is) (literal_exit a list context types (omega (arith, ready.levels)) node.place c.in-Number.field-0 c.use-none.ensures)
+    subst (λ u. Judges a list context u types types (Ok Num) c.use_none.new.usage) (sym is) (literal_exit a list context types (omega (arith, ready.levels)) node.place c.in-Number.field-0 c.use_none.ensures)
 
-pub judge-term-returns-in-Fn : goal.judge-term-returns-in-Fn
-judge-term-returns-in-Fn g t c =
+pub judge_term-returns-in-Fn : goal.judge_term-returns-in-Fn
+judge_term-returns-in-Fn g t c =
     let a = g.G.Algebra in
     let list = c.args.grades.now in
     let tables = tables_of c.args.program.now in
@@ -596,10 +596,10 @@ judge-term-returns-in-Fn g t c =
     let older = node_older tables _ _ nodes c.args.node c.requires.there node c.index.ensures (Fn c.in-Fn.binder c.in-Fn.domain c.in-Fn.body) c.in-Fn.is in
     let is = node_term tables _ _ nodes c.args.node c.requires.there node c.index.ensures a.nil list (Fn c.in-Fn.binder c.in-Fn.domain c.in-Fn.body) c.in-Fn.is in
     let ready = subst (Ready list tables types context) is c.requires.ready in
-    subst (λ u. Judges a list context u types (vec_items c.judge-fn.new.types.types) c.judge-fn.result c.judge-fn.new.usage) (sym is) (judges_as (term_in a.nil list tables node.place (Fn c.in-Fn.binder c.in-Fn.domain c.in-Fn.body)) c.judge-fn.result c.judge-fn.ensures refl (omega arith))
+    subst (λ u. Judges a list context u types (vec_items c.judge_fn.new.types.types) c.judge_fn.result c.judge_fn.new.usage) (sym is) (judges_as (term_in a.nil list tables node.place (Fn c.in-Fn.binder c.in-Fn.domain c.in-Fn.body)) c.judge_fn.result c.judge_fn.ensures refl (omega arith))
 
-pub judge-term-returns-in-Call : goal.judge-term-returns-in-Call
-judge-term-returns-in-Call g t c =
+pub judge_term-returns-in-Call : goal.judge_term-returns-in-Call
+judge_term-returns-in-Call g t c =
     let a = g.G.Algebra in
     let list = c.args.grades.now in
     let tables = tables_of c.args.program.now in
@@ -610,10 +610,10 @@ judge-term-returns-in-Call g t c =
     let older = node_older tables _ _ nodes c.args.node c.requires.there node c.index.ensures (Call c.in-Call.function c.in-Call.argument) c.in-Call.is in
     let is = node_term tables _ _ nodes c.args.node c.requires.there node c.index.ensures a.nil list (Call c.in-Call.function c.in-Call.argument) c.in-Call.is in
     let ready = subst (Ready list tables types context) is c.requires.ready in
-    subst (λ u. Judges a list context u types (vec_items c.judge-call.new.types.types) c.judge-call.result c.judge-call.new.usage) (sym is) (judges_as (term_in a.nil list tables node.place (Call c.in-Call.function c.in-Call.argument)) c.judge-call.result c.judge-call.ensures refl (omega arith))
+    subst (λ u. Judges a list context u types (vec_items c.judge_call.new.types.types) c.judge_call.result c.judge_call.new.usage) (sym is) (judges_as (term_in a.nil list tables node.place (Call c.in-Call.function c.in-Call.argument)) c.judge_call.result c.judge_call.ensures refl (omega arith))
 
-pub judge-term-returns-in-ok-judge-numbers : goal.judge-term-returns-in-ok-judge-numbers
-judge-term-returns-in-ok-judge-numbers g t c =
+pub judge_term-returns-in_ok-judge_numbers : goal.judge_term-returns-in_ok-judge_numbers
+judge_term-returns-in_ok-judge_numbers g t c =
     let a = g.G.Algebra in
     let list = c.args.grades.now in
     let tables = tables_of c.args.program.now in
@@ -624,10 +624,10 @@ judge-term-returns-in-ok-judge-numbers g t c =
     let older = node_older tables _ _ nodes c.args.node c.requires.there node c.index.ensures (Add c.in-Add.left c.in-Add.right) c.in-Add.is in
     let is = node_term tables _ _ nodes c.args.node c.requires.there node c.index.ensures a.nil list (Add c.in-Add.left c.in-Add.right) c.in-Add.is in
     let ready = subst (Ready list tables types context) is c.requires.ready in
-    subst (λ u. Judges a list context u types (vec_items c.judge-numbers.new.types.types) (Ok Num) c.judge-numbers.new.usage) (sym is) (number_exit a list context (term_in a.nil list tables node.place (Add c.in-Add.left c.in-Add.right)) c.in-ok-judge-numbers.ensures refl (omega arith))
+    subst (λ u. Judges a list context u types (vec_items c.judge_numbers.new.types.types) (Ok Num) c.judge_numbers.new.usage) (sym is) (number_exit a list context (term_in a.nil list tables node.place (Add c.in-Add.left c.in-Add.right)) c.in_ok-judge_numbers.ensures refl (omega arith))
 
-pub judge-term-returns-in-ok-judge-numbers-2 : goal.judge-term-returns-in-ok-judge-numbers-2
-judge-term-returns-in-ok-judge-numbers-2 g t c =
+pub judge_term-returns-in_ok-judge_numbers-2 : goal.judge_term-returns-in_ok-judge_numbers-2
+judge_term-returns-in_ok-judge_numbers-2 g t c =
     let a = g.G.Algebra in
     let list = c.args.grades.now in
     let tables = tables_of c.args.program.now in
@@ -638,10 +638,10 @@ judge-term-returns-in-ok-judge-numbers-2 g t c =
     let older = node_older tables _ _ nodes c.args.node c.requires.there node c.index.ensures (Sub c.in-Sub.left c.in-Sub.right) c.in-Sub.is in
     let is = node_term tables _ _ nodes c.args.node c.requires.there node c.index.ensures a.nil list (Sub c.in-Sub.left c.in-Sub.right) c.in-Sub.is in
     let ready = subst (Ready list tables types context) is c.requires.ready in
-    subst (λ u. Judges a list context u types (vec_items c.judge-numbers-in-Sub.new.types.types) (Ok Num) c.judge-numbers-in-Sub.new.usage) (sym is) (number_exit a list context (term_in a.nil list tables node.place (Sub c.in-Sub.left c.in-Sub.right)) c.in-ok-judge-numbers-2.ensures refl (omega arith))
+    subst (λ u. Judges a list context u types (vec_items c.judge_numbers-in-Sub.new.types.types) (Ok Num) c.judge_numbers-in-Sub.new.usage) (sym is) (number_exit a list context (term_in a.nil list tables node.place (Sub c.in-Sub.left c.in-Sub.right)) c.in_ok-judge_numbers-2.ensures refl (omega arith))
 
-pub judge-term-returns-in-ok-judge-number : goal.judge-term-returns-in-ok-judge-number
-judge-term-returns-in-ok-judge-number g t c =
+pub judge_term-returns-in_ok-judge_number : goal.judge_term-returns-in_ok-judge_number
+judge_term-returns-in_ok-judge_number g t c =
     let a = g.G.Algebra in
     let list = c.args.grades.now in
     let tables = tables_of c.args.program.now in
@@ -652,10 +652,10 @@ judge-term-returns-in-ok-judge-number g t c =
     let older = node_older tables _ _ nodes c.args.node c.requires.there node c.index.ensures (Half c.in-Half.part) c.in-Half.is in
     let is = node_term tables _ _ nodes c.args.node c.requires.there node c.index.ensures a.nil list (Half c.in-Half.part) c.in-Half.is in
     let ready = subst (Ready list tables types context) is c.requires.ready in
-    subst (λ u. Judges a list context u types (vec_items c.judge-number.new.types.types) (Ok Num) c.judge-number.new.usage) (sym is) (number_exit a list context (term_in a.nil list tables node.place (Half c.in-Half.part)) c.in-ok-judge-number.ensures refl (omega arith))
+    subst (λ u. Judges a list context u types (vec_items c.judge_number.new.types.types) (Ok Num) c.judge_number.new.usage) (sym is) (number_exit a list context (term_in a.nil list tables node.place (Half c.in-Half.part)) c.in_ok-judge_number.ensures refl (omega arith))
 
-pub judge-term-returns-in-Less : goal.judge-term-returns-in-Less
-judge-term-returns-in-Less g t c =
+pub judge_term-returns-in-Less : goal.judge_term-returns-in-Less
+judge_term-returns-in-Less g t c =
     let a = g.G.Algebra in
     let list = c.args.grades.now in
     let tables = tables_of c.args.program.now in
@@ -666,4 +666,4 @@ judge-term-returns-in-Less g t c =
     let older = node_older tables _ _ nodes c.args.node c.requires.there node c.index.ensures (Less c.in-Less.left c.in-Less.right c.in-Less.below c.in-Less.otherwise) c.in-Less.is in
     let is = node_term tables _ _ nodes c.args.node c.requires.there node c.index.ensures a.nil list (Less c.in-Less.left c.in-Less.right c.in-Less.below c.in-Less.otherwise) c.in-Less.is in
     let ready = subst (Ready list tables types context) is c.requires.ready in
-    subst (λ u. Judges a list context u types (vec_items c.judge-less.new.types.types) c.judge-less.result c.judge-less.new.usage) (sym is) (judges_as (term_in a.nil list tables node.place (Less c.in-Less.left c.in-Less.right c.in-Less.below c.in-Less.otherwise)) c.judge-less.result c.judge-less.ensures refl (omega arith))
+    subst (λ u. Judges a list context u types (vec_items c.judge_less.new.types.types) c.judge_less.result c.judge_less.new.usage) (sym is) (judges_as (term_in a.nil list tables node.place (Less c.in-Less.left c.in-Less.right c.in-Less.below c.in-Less.otherwise)) c.judge_less.result c.judge_less.ensures refl (omega arith))

@@ -4,42 +4,42 @@ use Rattle.language.proofs.Chains.{failed, nothing_made, domain_failed, body_fai
 use Rattle.language.proofs.Growth.{fn_grown, term_grown}
 use Rattle.language.proofs.reader.+read_parts_read_term.Goals as goal
 
-pub read-parts-returns-in-err-domain : goal.read-parts-returns-in-err-domain
-read-parts-returns-in-err-domain g t c =
-    let failure = c.from-residual-in-err-domain.ensures.1 in
+pub read_parts-returns-in_err-domain : goal.read_parts-returns-in_err-domain
+read_parts-returns-in_err-domain g t c =
+    let failure = c.from_residual-in_err-domain.ensures.1 in
     record {
-      reads = failed _ _ _ _ failure (domain_failed g.G.Written.reading c.args.text.now g.G.Algebra.unit _ c.args.inner (open_names c.args.scope.now) c.args.head c.args.next (state_of c.args.program.now c.args.grades.now) (tables_of c.read-binder.new.program) (tables_of c.add-binder-binder.new.self) c.read-binder.new.grades c.in-Fn.is c.one.ensures c.in-ok-name.ensures.reads c.add-binder-binder.ensures.index c.add-binder-binder.ensures.after c.in-err-domain.ensures.reads);
+      reads = failed _ _ _ _ failure (domain_failed g.G.Written.reading c.args.text.now g.G.Algebra.unit _ c.args.inner (open_names c.args.scope.now) c.args.head c.args.next (state_of c.args.program.now c.args.grades.now) (tables_of c.read_binder.new.program) (tables_of c.add_binder-binder.new.self) c.read_binder.new.grades c.in-Fn.is c.one.ensures c.in_ok-name.ensures.reads c.add_binder-binder.ensures.index c.add_binder-binder.ensures.after c.in_err-domain.ensures.reads);
       grows = nothing_made _ _ _ failure;
     }
 
-pub read-parts-returns-in-err-body : goal.read-parts-returns-in-err-body
-read-parts-returns-in-err-body g t c =
-    let failure = c.from-residual-in-err-body.ensures.1 in
+pub read_parts-returns-in_err-body : goal.read_parts-returns-in_err-body
+read_parts-returns-in_err-body g t c =
+    let failure = c.from_residual-in_err-body.ensures.1 in
     record {
-      reads = failed _ _ _ _ failure (body_failed g.G.Written.reading c.args.text.now g.G.Algebra.unit _ c.args.inner (open_names c.args.scope.now) c.args.head c.args.next (state_of c.args.program.now c.args.grades.now) (tables_of c.read-binder.new.program) (tables_of c.add-binder-binder.new.self) c.read-binder.new.grades c.in-Fn.is c.one.ensures c.in-ok-name.ensures.reads c.add-binder-binder.ensures.index c.add-binder-binder.ensures.after (state_of c.read-type.new.program c.read-type.new.grades) c.in-ok-domain.ensures.reads c.with-within.ensures.names c.in-err-body.ensures.reads);
+      reads = failed _ _ _ _ failure (body_failed g.G.Written.reading c.args.text.now g.G.Algebra.unit _ c.args.inner (open_names c.args.scope.now) c.args.head c.args.next (state_of c.args.program.now c.args.grades.now) (tables_of c.read_binder.new.program) (tables_of c.add_binder-binder.new.self) c.read_binder.new.grades c.in-Fn.is c.one.ensures c.in_ok-name.ensures.reads c.add_binder-binder.ensures.index c.add_binder-binder.ensures.after (state_of c.read_type.new.program c.read_type.new.grades) c.in_ok-domain.ensures.reads c.with-within.ensures.names c.in_err-body.ensures.reads);
       grows = nothing_made _ _ _ failure;
     }
 
-pub read-parts-returns-in-ok-body : goal.read-parts-returns-in-ok-body
-read-parts-returns-in-ok-body g t c =
-    let bound = c.add-binder-binder.ensures in
+pub read_parts-returns-in_ok-body : goal.read_parts-returns-in_ok-body
+read_parts-returns-in_ok-body g t c =
+    let bound = c.add_binder-binder.ensures in
     record {
-      reads = fn_read g.G.Written.reading c.args.text.now g.G.Algebra.unit _ c.args.inner (open_names c.args.scope.now) c.args.head c.args.next (state_of c.args.program.now c.args.grades.now) (tables_of c.read-binder.new.program) (tables_of c.add-binder-binder.new.self) c.read-binder.new.grades c.in-Fn.is c.one.ensures c.in-ok-name.ensures.reads c.add-binder-binder.ensures.index c.add-binder-binder.ensures.after (state_of c.read-type.new.program c.read-type.new.grades) (state_of c.read-term.new.program c.read-term.new.grades) c.in-ok-domain.ensures.reads c.with-within.ensures.names c.in-ok-body.ensures.reads;
-      grows = fn_grown (tables_of c.args.program.now) (tables_of c.read-binder.new.program) (tables_of c.add-binder-binder.new.self) (tables_of c.read-type.new.program) (tables_of c.read-term.new.program) _ c.in-ok-name.ensures.stores.1 bound.index bound.after c.in-ok-domain.ensures.grows c.in-ok-body.ensures.grows;
+      reads = fn_read g.G.Written.reading c.args.text.now g.G.Algebra.unit _ c.args.inner (open_names c.args.scope.now) c.args.head c.args.next (state_of c.args.program.now c.args.grades.now) (tables_of c.read_binder.new.program) (tables_of c.add_binder-binder.new.self) c.read_binder.new.grades c.in-Fn.is c.one.ensures c.in_ok-name.ensures.reads c.add_binder-binder.ensures.index c.add_binder-binder.ensures.after (state_of c.read_type.new.program c.read_type.new.grades) (state_of c.read_term.new.program c.read_term.new.grades) c.in_ok-domain.ensures.reads c.with-within.ensures.names c.in_ok-body.ensures.reads;
+      grows = fn_grown (tables_of c.args.program.now) (tables_of c.read_binder.new.program) (tables_of c.add_binder-binder.new.self) (tables_of c.read_type.new.program) (tables_of c.read_term.new.program) _ c.in_ok-name.ensures.stores.1 bound.index bound.after c.in_ok-domain.ensures.grows c.in_ok-body.ensures.grows;
     }
 
-pub read-term-returns-in-err-term : goal.read-term-returns-in-err-term
-read-term-returns-in-err-term g t c =
-    let failure = c.from-residual-in-err-term.ensures.1 in
+pub read_term-returns-in_err-term : goal.read_term-returns-in_err-term
+read_term-returns-in_err-term g t c =
+    let failure = c.from_residual-in_err-term.ensures.1 in
     record {
-      reads = failed _ _ _ _ failure (term_failed g.G.Written.reading c.args.text.now g.G.Algebra.unit c.args.depth (open_names c.args.scope.now) c.args.at (state_of c.args.program.now c.args.grades.now) (tables_of c.count-word.new.self) c.in-ok-token.ensures c.in-ok-head.ensures c.in-ok-inner.ensures.counts c.in-ok-inner.ensures.falls c.in-err-term.ensures.reads);
+      reads = failed _ _ _ _ failure (term_failed g.G.Written.reading c.args.text.now g.G.Algebra.unit c.args.depth (open_names c.args.scope.now) c.args.at (state_of c.args.program.now c.args.grades.now) (tables_of c.count_word.new.self) c.in_ok-token.ensures c.in_ok-head.ensures c.in_ok-inner.ensures.counts c.in_ok-inner.ensures.falls c.in_err-term.ensures.reads);
       grows = nothing_made _ _ _ failure;
     }
 
-pub read-term-returns : goal.read-term-returns
-read-term-returns g t c =
-    let stored = c.add-node-index.ensures in
+pub read_term-returns : goal.read_term-returns
+read_term-returns g t c =
+    let stored = c.add_node-index.ensures in
     record {
-      reads = term_read g.G.Written.reading c.args.text.now g.G.Algebra.unit c.args.depth (open_names c.args.scope.now) c.args.at (state_of c.args.program.now c.args.grades.now) (tables_of c.count-word.new.self) c.in-ok-token.ensures c.in-ok-head.ensures c.in-ok-inner.ensures.counts c.in-ok-inner.ensures.falls (state_of c.read-parts.new.program c.read-parts.new.grades) (tables_of c.add-node-index.new.self) c.in-ok-term.ensures.reads stored.index stored.after;
-      grows = term_grown (tables_of c.args.program.now) (tables_of c.count-word.new.self) (tables_of c.read-parts.new.program) (tables_of c.add-node-index.new.self) _ c.in-ok-inner.ensures.words c.in-ok-term.ensures.grows.0 stored.after stored.index;
+      reads = term_read g.G.Written.reading c.args.text.now g.G.Algebra.unit c.args.depth (open_names c.args.scope.now) c.args.at (state_of c.args.program.now c.args.grades.now) (tables_of c.count_word.new.self) c.in_ok-token.ensures c.in_ok-head.ensures c.in_ok-inner.ensures.counts c.in_ok-inner.ensures.falls (state_of c.read_parts.new.program c.read_parts.new.grades) (tables_of c.add_node-index.new.self) c.in_ok-term.ensures.reads stored.index stored.after;
+      grows = term_grown (tables_of c.args.program.now) (tables_of c.count_word.new.self) (tables_of c.read_parts.new.program) (tables_of c.add_node-index.new.self) _ c.in_ok-inner.ensures.words c.in_ok-term.ensures.grows.0 stored.after stored.index;
     }

@@ -8,41 +8,41 @@ use Rattle.language.proofs.reader.+read_type.Goals as goal
 
 pub returns-in-Num : goal.returns-in-Num
 returns-in-Num g t c =
-    let stored = c.add-type-index.ensures in
+    let stored = c.add_type-index.ensures in
     record {
-      reads = num_read g.G.Written.reading c.args.text.now c.args.depth c.args.at (state_of c.args.program.now c.args.grades.now) (tables_of c.count-word.new.self) (tables_of c.add-type-index.new.self) c.in-ok-token.ensures c.in-ok-head.ensures c.in-Num.is c.in-ok-inner.ensures.counts c.in-ok-inner.ensures.falls stored.index stored.after;
-      grows = type_grown (tables_of c.args.program.now) (tables_of c.count-word.new.self) (tables_of c.add-type-index.new.self) Num (grown_word (tables_of c.args.program.now) (tables_of c.count-word.new.self) c.in-ok-inner.ensures.words) stored.after stored.index;
+      reads = num_read g.G.Written.reading c.args.text.now c.args.depth c.args.at (state_of c.args.program.now c.args.grades.now) (tables_of c.count_word.new.self) (tables_of c.add_type-index.new.self) c.in_ok-token.ensures c.in_ok-head.ensures c.in-Num.is c.in_ok-inner.ensures.counts c.in_ok-inner.ensures.falls stored.index stored.after;
+      grows = type_grown (tables_of c.args.program.now) (tables_of c.count_word.new.self) (tables_of c.add_type-index.new.self) Num (grown_word (tables_of c.args.program.now) (tables_of c.count_word.new.self) c.in_ok-inner.ensures.words) stored.after stored.index;
     }
 
-pub add-type-index-requires-in-To : goal.add-type-index-requires-in-To
-add-type-index-requires-in-To g t c =
-    let graded = c.in-ok-grade.ensures.stores in
+pub add_type-index-requires-in-To : goal.add_type-index-requires-in-To
+add_type-index-requires-in-To g t c =
+    let graded = c.in_ok-grade.ensures.stores in
     record {
-      room = room (arrow_owed (tables_of c.args.program.now) (tables_of c.count-word.new.self) (tables_of c.add-grade.new.program) (tables_of c.read-type.new.program) (tables_of c.read-type-in-To.new.program) c.in-ok-inner.ensures.words graded.1 c.in-ok-from.ensures.grows c.in-ok-to.ensures.grows) c.args.program.now.counted;
-      fits = arrow_fits (tables_of c.args.program.now) (tables_of c.count-word.new.self) (tables_of c.add-grade.new.program) (tables_of c.read-type.new.program) (tables_of c.read-type-in-To.new.program) c.in-ok-inner.ensures.words graded.1 c.in-ok-from.ensures.grows c.in-ok-to.ensures.grows graded.0;
+      room = room (arrow_owed (tables_of c.args.program.now) (tables_of c.count_word.new.self) (tables_of c.add_grade.new.program) (tables_of c.read_type.new.program) (tables_of c.read_type-in-To.new.program) c.in_ok-inner.ensures.words graded.1 c.in_ok-from.ensures.grows c.in_ok-to.ensures.grows) c.args.program.now.counted;
+      fits = arrow_fits (tables_of c.args.program.now) (tables_of c.count_word.new.self) (tables_of c.add_grade.new.program) (tables_of c.read_type.new.program) (tables_of c.read_type-in-To.new.program) c.in_ok-inner.ensures.words graded.1 c.in_ok-from.ensures.grows c.in_ok-to.ensures.grows graded.0;
     }
 
-pub returns-in-err-from : goal.returns-in-err-from
-returns-in-err-from g t c =
-    let failure = c.from-residual-in-err-from.ensures.1 in
+pub returns-in_err-from : goal.returns-in_err-from
+returns-in_err-from g t c =
+    let failure = c.from_residual-in_err-from.ensures.1 in
     record {
-      reads = failed _ _ _ _ failure (from_failed g.G.Written.reading c.args.text.now c.args.depth c.args.at (state_of c.args.program.now c.args.grades.now) (tables_of c.count-word.new.self) (state_of c.add-grade.new.program c.add-grade.new.grades) c.in-ok-token.ensures c.in-ok-head.ensures c.in-To.is c.in-ok-inner.ensures.counts c.in-ok-inner.ensures.falls c.in-ok-token-2.ensures c.in-ok-g.ensures c.in-ok-grade.ensures.reads c.in-err-from.ensures.reads);
+      reads = failed _ _ _ _ failure (from_failed g.G.Written.reading c.args.text.now c.args.depth c.args.at (state_of c.args.program.now c.args.grades.now) (tables_of c.count_word.new.self) (state_of c.add_grade.new.program c.add_grade.new.grades) c.in_ok-token.ensures c.in_ok-head.ensures c.in-To.is c.in_ok-inner.ensures.counts c.in_ok-inner.ensures.falls c.in_ok-token-2.ensures c.in_ok-g.ensures c.in_ok-grade.ensures.reads c.in_err-from.ensures.reads);
       grows = nothing_made _ _ _ failure;
     }
 
-pub returns-in-err-to : goal.returns-in-err-to
-returns-in-err-to g t c =
-    let failure = c.from-residual-in-err-to.ensures.1 in
+pub returns-in_err-to : goal.returns-in_err-to
+returns-in_err-to g t c =
+    let failure = c.from_residual-in_err-to.ensures.1 in
     record {
-      reads = failed _ _ _ _ failure (to_failed g.G.Written.reading c.args.text.now c.args.depth c.args.at (state_of c.args.program.now c.args.grades.now) (tables_of c.count-word.new.self) (state_of c.add-grade.new.program c.add-grade.new.grades) c.in-ok-token.ensures c.in-ok-head.ensures c.in-To.is c.in-ok-inner.ensures.counts c.in-ok-inner.ensures.falls c.in-ok-token-2.ensures c.in-ok-g.ensures c.in-ok-grade.ensures.reads (state_of c.read-type.new.program c.read-type.new.grades) c.in-ok-from.ensures.reads c.in-err-to.ensures.reads);
+      reads = failed _ _ _ _ failure (to_failed g.G.Written.reading c.args.text.now c.args.depth c.args.at (state_of c.args.program.now c.args.grades.now) (tables_of c.count_word.new.self) (state_of c.add_grade.new.program c.add_grade.new.grades) c.in_ok-token.ensures c.in_ok-head.ensures c.in-To.is c.in_ok-inner.ensures.counts c.in_ok-inner.ensures.falls c.in_ok-token-2.ensures c.in_ok-g.ensures c.in_ok-grade.ensures.reads (state_of c.read_type.new.program c.read_type.new.grades) c.in_ok-from.ensures.reads c.in_err-to.ensures.reads);
       grows = nothing_made _ _ _ failure;
     }
 
-pub returns-in-ok-to : goal.returns-in-ok-to
-returns-in-ok-to g t c =
-    let graded = c.in-ok-grade.ensures.stores in
-    let stored = c.add-type-index-in-To.ensures in
+pub returns-in_ok-to : goal.returns-in_ok-to
+returns-in_ok-to g t c =
+    let graded = c.in_ok-grade.ensures.stores in
+    let stored = c.add_type-index-in-To.ensures in
     record {
-      reads = arrow_read g.G.Written.reading c.args.text.now c.args.depth c.args.at (state_of c.args.program.now c.args.grades.now) (tables_of c.count-word.new.self) (state_of c.add-grade.new.program c.add-grade.new.grades) c.in-ok-token.ensures c.in-ok-head.ensures c.in-To.is c.in-ok-inner.ensures.counts c.in-ok-inner.ensures.falls c.in-ok-token-2.ensures c.in-ok-g.ensures c.in-ok-grade.ensures.reads (state_of c.read-type.new.program c.read-type.new.grades) (state_of c.read-type-in-To.new.program c.read-type-in-To.new.grades) (tables_of c.add-type-index-in-To.new.self) c.in-ok-from.ensures.reads c.in-ok-to.ensures.reads stored.index stored.after;
-      grows = type_grown (tables_of c.args.program.now) (tables_of c.read-type-in-To.new.program) (tables_of c.add-type-index-in-To.new.self) _ (arrow_owed (tables_of c.args.program.now) (tables_of c.count-word.new.self) (tables_of c.add-grade.new.program) (tables_of c.read-type.new.program) (tables_of c.read-type-in-To.new.program) c.in-ok-inner.ensures.words graded.1 c.in-ok-from.ensures.grows c.in-ok-to.ensures.grows) stored.after stored.index;
+      reads = arrow_read g.G.Written.reading c.args.text.now c.args.depth c.args.at (state_of c.args.program.now c.args.grades.now) (tables_of c.count_word.new.self) (state_of c.add_grade.new.program c.add_grade.new.grades) c.in_ok-token.ensures c.in_ok-head.ensures c.in-To.is c.in_ok-inner.ensures.counts c.in_ok-inner.ensures.falls c.in_ok-token-2.ensures c.in_ok-g.ensures c.in_ok-grade.ensures.reads (state_of c.read_type.new.program c.read_type.new.grades) (state_of c.read_type-in-To.new.program c.read_type-in-To.new.grades) (tables_of c.add_type-index-in-To.new.self) c.in_ok-from.ensures.reads c.in_ok-to.ensures.reads stored.index stored.after;
+      grows = type_grown (tables_of c.args.program.now) (tables_of c.read_type-in-To.new.program) (tables_of c.add_type-index-in-To.new.self) _ (arrow_owed (tables_of c.args.program.now) (tables_of c.count_word.new.self) (tables_of c.add_grade.new.program) (tables_of c.read_type.new.program) (tables_of c.read_type-in-To.new.program) c.in_ok-inner.ensures.words graded.1 c.in_ok-from.ensures.grows c.in_ok-to.ensures.grows) stored.after stored.index;
     }

@@ -1,4 +1,4 @@
 use Rattle.language.proofs.reader.+read_type.Given as goal
 
-abbrev pub decreases-read-type : goal.decreases-read-type
-decreases-read-type g l = l.depth
+abbrev pub decreases-read_type : goal.decreases-read_type
+decreases-read_type g l = l.depth

@@ -7,7 +7,7 @@ pub returns : goal.returns
 returns g c =
     let reading = g.G.Written.reading in
     let one = g.G.Algebra.unit in
-    c.read-rule.ensures
+    c.read_rule.ensures
     ∙ ap (λ w. rule reading c.args.text.now one 8 w 0 (state_of c.args.program.now c.args.grades.now)) c.empty-scope.ensures.names
     ∙ ap (λ t. rule reading c.args.text.now one 8 [] 0 (state t c.args.grades.now)) c.requires.empty
-    ∙ sym (cond-false _ _ _ (sym c.if-is-empty.ensures) ∙ cond-false _ _ _ (le-ltb 16384 (length c.args.text.now) c.if-text-gt-LONGEST-TEXT.false))
+    ∙ sym (cond-false _ _ _ (sym c.if-is_empty.ensures) ∙ cond-false _ _ _ (le-ltb 16384 (length c.args.text.now) c.if-text-gt-LONGEST_TEXT.false))

@@ -8,7 +8,7 @@ use Rattle.language.proofs.tables.Program.add_node.Goals as goal
 pub invariant_of-self : goal.invariant_of-self
 invariant_of-self c =
     let s = c.args.self.now in
-    let items = c.push-reserved.ensures.items in
+    let items = c.push_reserved.ensures.items in
     let longer = ap length items in
     let more = length_push (vec_items s.nodes) c.args.node in (
       s.broom,

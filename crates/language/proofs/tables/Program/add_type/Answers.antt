@@ -8,7 +8,7 @@ use Rattle.language.proofs.tables.Program.add_type.Goals as goal
 pub invariant_of-self : goal.invariant_of-self
 invariant_of-self c =
     let s = c.args.self.now in
-    let items = c.push-reserved.ensures.items in
+    let items = c.push_reserved.ensures.items in
     let longer = ap length items in
     let more = length_push (vec_items s.types) c.args.simple in (
       s.broom,

@@ -7,7 +7,7 @@ pub returns : goal.returns
 returns g c =
     let s = c.args.self.now in
     record {
-      judges = c.judge-program.ensures;
+      judges = c.judge_program.ensures;
       keeps = refl;
-      correctly = correctly g.G.Algebra g.met.G.Algebra.kept (model_of s) (verdict_of s) c.args.grades.now c.args.work.now c.judge-program.result c.judge-program.new.verdict c.judge-program.new.work c.judge-program.ensures;
+      correctly = correctly g.G.Algebra g.met.G.Algebra.kept (model_of s) (verdict_of s) c.args.grades.now c.args.work.now c.judge_program.result c.judge_program.new.verdict c.judge_program.new.work c.judge_program.ensures;
     }

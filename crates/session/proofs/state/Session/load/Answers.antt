@@ -13,12 +13,12 @@ returns-then-grades-lt-GRADES g c = record {
 
 pub returns-in-Ok : goal.returns-in-Ok
 returns-in-Ok g c = record {
-  loads = loaded_from g.G.Written.reading g.G.Algebra.unit g.G.Algebra.nil c.args.text.now (model_of c.args.self.now) (tables_of c.args.self.now.program) c.args.grades.now c.if-grades-lt-GRADES.false (Ok tt, tables_of c.read-program.new.program, c.read-program.new.grades) c.in-Ok.ensures;
+  loads = loaded_from g.G.Written.reading g.G.Algebra.unit g.G.Algebra.nil c.args.text.now (model_of c.args.self.now) (tables_of c.args.self.now.program) c.args.grades.now c.if-grades-lt-GRADES.false (Ok tt, tables_of c.read_program.new.program, c.read_program.new.grades) c.in-Ok.ensures;
   exact = exact g.G.Written.reading g.G.Algebra.unit;
 }
 
 pub returns-in-Err : goal.returns-in-Err
 returns-in-Err g c = record {
-  loads = loaded_from g.G.Written.reading g.G.Algebra.unit g.G.Algebra.nil c.args.text.now (model_of c.args.self.now) (tables_of c.args.self.now.program) c.args.grades.now c.if-grades-lt-GRADES.false (Err c.in-Err.fault, tables_of c.read-program.new.program, c.read-program.new.grades) c.in-Err.ensures;
+  loads = loaded_from g.G.Written.reading g.G.Algebra.unit g.G.Algebra.nil c.args.text.now (model_of c.args.self.now) (tables_of c.args.self.now.program) c.args.grades.now c.if-grades-lt-GRADES.false (Err c.in-Err.fault, tables_of c.read_program.new.program, c.read_program.new.grades) c.in-Err.ensures;
   exact = exact g.G.Written.reading g.G.Algebra.unit;
 }

@@ -4,12 +4,12 @@ use Rattle.spans.specs.Spans.{one_less}
 use Rattle.spans.specs.Ends.{same_span}
 use Rattle.spans.specs.SpanLaws.{left_of, one_less_is}
 use Rattle.spans.proofs.algebra.SpanAlgebra.take.Goals as goal
-use Rattle.spans.proofs.algebra.SpanAlgebra.take.Goals.{then-self-eq-NO-LIMIT, else-self-eq-NO-LIMIT}
+use Rattle.spans.proofs.algebra.SpanAlgebra.take.Goals.{then-self-eq-NO_LIMIT, else-self-eq-NO_LIMIT}
 
-falls : (c : goal.After-result·1) → c.if-self-eq-NO-LIMIT.upper ≡ one_less c.args.self.upper
+falls : (c : goal.After-result-1) → c.if-self-eq-NO_LIMIT.upper ≡ one_less c.args.self.upper
 falls c =
-    ⊎_elim (λ o. elim c.if-self-eq-NO-LIMIT.branch [ then-self-eq-NO-LIMIT w ↦ omega (arith, o, w.upper-is) | else-self-eq-NO-LIMIT w ↦ absurd (w.if-self-eq-NO-LIMIT.false o.0) ])
-    (λ o. elim c.if-self-eq-NO-LIMIT.branch [ then-self-eq-NO-LIMIT w ↦ absurd (o.0 w.if-self-eq-NO-LIMIT.true) | else-self-eq-NO-LIMIT w ↦ omega (arith, o.1, w.upper-is) ])
+    ⊎_elim (λ o. elim c.if-self-eq-NO_LIMIT.branch [ then-self-eq-NO_LIMIT w ↦ omega (arith, o, w.upper-is) | else-self-eq-NO_LIMIT w ↦ absurd (w.if-self-eq-NO_LIMIT.false o.0) ])
+    (λ o. elim c.if-self-eq-NO_LIMIT.branch [ then-self-eq-NO_LIMIT w ↦ absurd (o.0 w.if-self-eq-NO_LIMIT.true) | else-self-eq-NO_LIMIT w ↦ omega (arith, o.1, w.upper-is) ])
     (one_less_is c.args.self.upper)
 
 pub returns : goal.returns
