@@ -174,7 +174,7 @@ fn read_grade<G: Written>(
     grades: &mut [G],
 ) -> Result<Parsed, Fault>
     requires { length grades.old ≡ 256 }
-    ensures reads { told result (state_of program.new grades.new) ≡ binder_grade reading text.now bare place behind (state_of program.old grades.old) }
+    ensures reads { told result (state_of program.new grades.new) ≡ binder_grade G.reading text.now bare place behind (state_of program.old grades.old) }
     ensures stores { IfOk result (λ p. (p.index ≡ (tables_of program.old).grades) × (tables_of program.new ≡ with_grade (tables_of program.old))) }
 {
     let after = token_at::<G>(text, behind)?;
@@ -205,7 +205,7 @@ fn read_binder<'a, G: Written>(
     grades: &mut [G],
 ) -> Result<Bound<'a>, Fault>
     requires { length grades.old ≡ 256 }
-    ensures reads { told (bound_of result) (state_of program.new grades.new) ≡ binder reading text.now bare at (state_of program.old grades.old) }
+    ensures reads { told (bound_of result) (state_of program.new grades.new) ≡ binder G.reading text.now bare at (state_of program.old grades.old) }
     ensures stores { IfOk result (λ b. (b.binder.grade ≡ (tables_of program.old).grades) × (tables_of program.new ≡ with_grade (tables_of program.old))) }
 {
     let Placed {
@@ -232,7 +232,7 @@ fn read_type<G: Written>(
     grades: &mut [G],
 ) -> Result<Parsed, Fault>
     requires { length grades.old ≡ 256 }
-    ensures reads { told result (state_of program.new grades.new) ≡ simple_type reading text.now depth at (state_of program.old grades.old) }
+    ensures reads { told result (state_of program.new grades.new) ≡ simple_type G.reading text.now depth at (state_of program.old grades.old) }
     ensures grows { IfOk result (λ p. Grown 0 (tables_of program.old) (tables_of program.new) × (p.index < length (tables_of program.new).types)) }
 {
     let Placed { token, place, next } = token_at::<G>(text, at)?;
@@ -267,7 +267,7 @@ fn read_term<'a, G: Written>(
 ) -> Result<Parsed, Fault>
     requires list { length grades.old ≡ 256 }
     requires levels { scope.now.count + depth ≤ 32 }
-    ensures reads { told result (state_of program.new grades.new) ≡ term reading text.now G.Algebra.unit depth (open_names scope.now) at (state_of program.old grades.old) }
+    ensures reads { told result (state_of program.new grades.new) ≡ term G.reading text.now G.Algebra.unit depth (open_names scope.now) at (state_of program.old grades.old) }
     ensures grows { IfOk result (λ p. Grown 0 (tables_of program.old) (tables_of program.new) × (p.index < length (tables_of program.new).nodes)) }
 {
     let Placed { token, place, next } = token_at::<G>(text, at)?;
@@ -292,7 +292,7 @@ fn read_parts<'a, G: Written>(
     requires list { length grades.old ≡ 256 }
     requires levels { scope.now.count + inner < 32 }
     requires room { length (tables_of program.old).binders < (tables_of program.old).inputs + (tables_of program.old).words }
-    ensures reads { told result (state_of program.new grades.new) ≡ term_parts reading text.now G.Algebra.unit (simple_type reading text.now inner) (term reading text.now G.Algebra.unit inner) (open_names scope.now) head next (state_of program.old grades.old) }
+    ensures reads { told result (state_of program.new grades.new) ≡ term_parts G.reading text.now G.Algebra.unit (simple_type G.reading text.now inner) (term G.reading text.now G.Algebra.unit inner) (open_names scope.now) head next (state_of program.old grades.old) }
     ensures grows { IfOk result (λ f. Grown 0 (tables_of program.old) (tables_of program.new) × TermFits (tables_of program.new) f.term) }
 {
     match head {
@@ -382,7 +382,7 @@ fn read_rule<'a, G: Written>(
     requires list { length grades.old ≡ 256 }
     requires levels { scope.now.count + left ≤ 8 }
     requires inputs { (tables_of program.old).inputs + left ≤ 8 }
-    ensures { told result (state_of program.new grades.new) ≡ rule reading text.now G.Algebra.unit left (open_names scope.now) at (state_of program.old grades.old) }
+    ensures { told result (state_of program.new grades.new) ≡ rule G.reading text.now G.Algebra.unit left (open_names scope.now) at (state_of program.old grades.old) }
 {
     let Placed { token, place, next } = token_at::<G>(text, at)?;
     let head = rule_head(token, place)?;
@@ -417,7 +417,7 @@ fn read_rule<'a, G: Written>(
 fn read_text<G: Written>(text: &[u8], program: &mut Program, grades: &mut [G]) -> Result<(), Fault>
     requires list { length grades.old ≡ 256 }
     requires empty { tables_of program.old ≡ no_tables }
-    ensures { told result (state_of program.new grades.new) ≡ text_read reading G.Algebra.unit text.now grades.old }
+    ensures { told result (state_of program.new grades.new) ≡ text_read G.reading G.Algebra.unit text.now grades.old }
 {
     if text.is_empty() {
         return Err(Fault {
@@ -437,7 +437,7 @@ fn read_text<G: Written>(text: &[u8], program: &mut Program, grades: &mut [G]) -
 
 // Zeros from the place `from` on.
 fn clear_from<G: Algebra>(grades: &mut [G], from: usize)
-    ensures { grades.new ≡ zeros_from nil from grades.old }
+    ensures { grades.new ≡ zeros_from G.Algebra.nil from grades.old }
 {
     for i in from..grades.len() {
         grades[i] = G::zero();
@@ -452,7 +452,7 @@ pub fn read_program<G: Written>(
     program: &mut Program,
     grades: &mut [G],
 ) -> Result<(), Fault>
-    ensures { (result, tables_of program.new, grades.new) ≡ program_read reading G.Algebra.unit G.Algebra.nil text.now (tables_of program.old) grades.old }
+    ensures { (result, tables_of program.new, grades.new) ≡ program_read G.reading G.Algebra.unit G.Algebra.nil text.now (tables_of program.old) grades.old }
 {
     if grades.len() < MOST_GRADES {
         return Err(Fault {

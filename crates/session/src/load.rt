@@ -35,8 +35,8 @@ impl Session {
     // By its second clause, what is read are exactly the sentences of the grammar within the limits. By its third, a
     // session that has read a rule has one. A verdict on an earlier rule is dropped.
     pub fn load<G: Written>(&mut self, text: &[u8], grades: &mut [G]) -> Result<(), Fault>
-        ensures loads { (result, model_of self.new, grades.new) ≡ loaded reading G.Algebra.unit G.Algebra.nil text.now (model_of self.old) grades.old }
-        ensures exact { Exact reading G.Algebra.unit }
+        ensures loads { (result, model_of self.new, grades.new) ≡ loaded G.reading G.Algebra.unit G.Algebra.nil text.now (model_of self.old) grades.old }
+        ensures exact { Exact G.reading G.Algebra.unit }
         ensures there { OnOk result (0 < length (model_of self.new).rule.nodes) }
         ensures forgets { verdict_of self.new ≡ verdict_left grades.old (verdict_of self.old) }
     {

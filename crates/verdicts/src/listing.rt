@@ -46,7 +46,7 @@ fn verdict_on<G: Written>(
     grades: &mut [G],
     work: &mut [G],
 ) -> Result<(), Fault>
-    ensures { result ≡ answer G.Algebra reading text.now (model_of session.old) grades.old work.old }
+    ensures { result ≡ answer G.Algebra G.reading text.now (model_of session.old) grades.old work.old }
 {
     session.load(text, grades)?;
     session.judge(grades, work)
@@ -55,8 +55,8 @@ fn verdict_on<G: Written>(
 // What the program prints of a text: the answer of a session without a rule. By its second clause, that is `accepted`
 // exactly when the text is a sentence of the grammar within the limits whose rule is acceptable.
 pub fn listed<G: Written>(heap: Global, text: &[u8]) -> Result<Vec<u8>, AllocError>
-    ensures prints { IfOk result (λ v. v.items ≡ listing G.Algebra reading text.now) }
-    ensures accepts { IfOk result (λ v. (v.items ≡ accepted_line) ↔ AcceptableText G.Algebra reading text.now) }
+    ensures prints { IfOk result (λ v. v.items ≡ listing G.Algebra G.reading text.now) }
+    ensures accepts { IfOk result (λ v. (v.items ≡ accepted_line) ↔ AcceptableText G.Algebra G.reading text.now) }
 {
     let mut session = Session::new(heap)?;
     let mut grades = zeros::<G>(heap, GRADES)?;

@@ -16,33 +16,33 @@ returns-in-Num g t c =
 
 pub add_type-index-requires-in-To : goal.add_type-index-requires-in-To
 add_type-index-requires-in-To g t c =
-    let graded = c.in_ok-grade.ensures.stores in
+    let graded = c.in_ok-grade-in-To.ensures.stores in
     record {
-      room = room (arrow_owed (tables_of c.args.program.now) (tables_of c.count_word.new.self) (tables_of c.add_grade.new.program) (tables_of c.read_type.new.program) (tables_of c.read_type-in-To.new.program) c.in_ok-inner.ensures.words graded.1 c.in_ok-from.ensures.grows c.in_ok-to.ensures.grows) c.args.program.now.counted;
-      fits = arrow_fits (tables_of c.args.program.now) (tables_of c.count_word.new.self) (tables_of c.add_grade.new.program) (tables_of c.read_type.new.program) (tables_of c.read_type-in-To.new.program) c.in_ok-inner.ensures.words graded.1 c.in_ok-from.ensures.grows c.in_ok-to.ensures.grows graded.0;
+      room = room (arrow_owed (tables_of c.args.program.now) (tables_of c.count_word.new.self) (tables_of c.add_grade.new.program) (tables_of c.read_type.new.program) (tables_of c.read_type-in-To.new.program) c.in_ok-inner.ensures.words graded.1 c.in_ok-from-in-To.ensures.grows c.in_ok-to-in-To.ensures.grows) c.args.program.now.counted;
+      fits = arrow_fits (tables_of c.args.program.now) (tables_of c.count_word.new.self) (tables_of c.add_grade.new.program) (tables_of c.read_type.new.program) (tables_of c.read_type-in-To.new.program) c.in_ok-inner.ensures.words graded.1 c.in_ok-from-in-To.ensures.grows c.in_ok-to-in-To.ensures.grows graded.0;
     }
 
-pub returns-in_err-from : goal.returns-in_err-from
-returns-in_err-from g t c =
-    let failure = c.from_residual-in_err-from.ensures.1 in
+pub returns-in_err-from-in-To : goal.returns-in_err-from-in-To
+returns-in_err-from-in-To g t c =
+    let failure = c.from_residual-in_err-from-in-To.ensures.1 in
     record {
-      reads = failed _ _ _ _ failure (from_failed g.G.Written.reading c.args.text.now c.args.depth c.args.at (state_of c.args.program.now c.args.grades.now) (tables_of c.count_word.new.self) (state_of c.add_grade.new.program c.add_grade.new.grades) c.in_ok-token.ensures c.in_ok-head.ensures c.in-To.is c.in_ok-inner.ensures.counts c.in_ok-inner.ensures.falls c.in_ok-token-2.ensures c.in_ok-g.ensures c.in_ok-grade.ensures.reads c.in_err-from.ensures.reads);
+      reads = failed _ _ _ _ failure (from_failed g.G.Written.reading c.args.text.now c.args.depth c.args.at (state_of c.args.program.now c.args.grades.now) (tables_of c.count_word.new.self) (state_of c.add_grade.new.program c.add_grade.new.grades) c.in_ok-token.ensures c.in_ok-head.ensures c.in-To.is c.in_ok-inner.ensures.counts c.in_ok-inner.ensures.falls c.in_ok-token-in-To.ensures c.in_ok-g-in-To.ensures c.in_ok-grade-in-To.ensures.reads c.in_err-from-in-To.ensures.reads);
       grows = nothing_made _ _ _ failure;
     }
 
-pub returns-in_err-to : goal.returns-in_err-to
-returns-in_err-to g t c =
-    let failure = c.from_residual-in_err-to.ensures.1 in
+pub returns-in_err-to-in-To : goal.returns-in_err-to-in-To
+returns-in_err-to-in-To g t c =
+    let failure = c.from_residual-in_err-to-in-To.ensures.1 in
     record {
-      reads = failed _ _ _ _ failure (to_failed g.G.Written.reading c.args.text.now c.args.depth c.args.at (state_of c.args.program.now c.args.grades.now) (tables_of c.count_word.new.self) (state_of c.add_grade.new.program c.add_grade.new.grades) c.in_ok-token.ensures c.in_ok-head.ensures c.in-To.is c.in_ok-inner.ensures.counts c.in_ok-inner.ensures.falls c.in_ok-token-2.ensures c.in_ok-g.ensures c.in_ok-grade.ensures.reads (state_of c.read_type.new.program c.read_type.new.grades) c.in_ok-from.ensures.reads c.in_err-to.ensures.reads);
+      reads = failed _ _ _ _ failure (to_failed g.G.Written.reading c.args.text.now c.args.depth c.args.at (state_of c.args.program.now c.args.grades.now) (tables_of c.count_word.new.self) (state_of c.add_grade.new.program c.add_grade.new.grades) c.in_ok-token.ensures c.in_ok-head.ensures c.in-To.is c.in_ok-inner.ensures.counts c.in_ok-inner.ensures.falls c.in_ok-token-in-To.ensures c.in_ok-g-in-To.ensures c.in_ok-grade-in-To.ensures.reads (state_of c.read_type.new.program c.read_type.new.grades) c.in_ok-from-in-To.ensures.reads c.in_err-to-in-To.ensures.reads);
       grows = nothing_made _ _ _ failure;
     }
 
-pub returns-in_ok-to : goal.returns-in_ok-to
-returns-in_ok-to g t c =
-    let graded = c.in_ok-grade.ensures.stores in
+pub returns-in_ok-to-in-To : goal.returns-in_ok-to-in-To
+returns-in_ok-to-in-To g t c =
+    let graded = c.in_ok-grade-in-To.ensures.stores in
     let stored = c.add_type-index-in-To.ensures in
     record {
-      reads = arrow_read g.G.Written.reading c.args.text.now c.args.depth c.args.at (state_of c.args.program.now c.args.grades.now) (tables_of c.count_word.new.self) (state_of c.add_grade.new.program c.add_grade.new.grades) c.in_ok-token.ensures c.in_ok-head.ensures c.in-To.is c.in_ok-inner.ensures.counts c.in_ok-inner.ensures.falls c.in_ok-token-2.ensures c.in_ok-g.ensures c.in_ok-grade.ensures.reads (state_of c.read_type.new.program c.read_type.new.grades) (state_of c.read_type-in-To.new.program c.read_type-in-To.new.grades) (tables_of c.add_type-index-in-To.new.self) c.in_ok-from.ensures.reads c.in_ok-to.ensures.reads stored.index stored.after;
-      grows = type_grown (tables_of c.args.program.now) (tables_of c.read_type-in-To.new.program) (tables_of c.add_type-index-in-To.new.self) _ (arrow_owed (tables_of c.args.program.now) (tables_of c.count_word.new.self) (tables_of c.add_grade.new.program) (tables_of c.read_type.new.program) (tables_of c.read_type-in-To.new.program) c.in_ok-inner.ensures.words graded.1 c.in_ok-from.ensures.grows c.in_ok-to.ensures.grows) stored.after stored.index;
+      reads = arrow_read g.G.Written.reading c.args.text.now c.args.depth c.args.at (state_of c.args.program.now c.args.grades.now) (tables_of c.count_word.new.self) (state_of c.add_grade.new.program c.add_grade.new.grades) c.in_ok-token.ensures c.in_ok-head.ensures c.in-To.is c.in_ok-inner.ensures.counts c.in_ok-inner.ensures.falls c.in_ok-token-in-To.ensures c.in_ok-g-in-To.ensures c.in_ok-grade-in-To.ensures.reads (state_of c.read_type.new.program c.read_type.new.grades) (state_of c.read_type-in-To.new.program c.read_type-in-To.new.grades) (tables_of c.add_type-index-in-To.new.self) c.in_ok-from-in-To.ensures.reads c.in_ok-to-in-To.ensures.reads stored.index stored.after;
+      grows = type_grown (tables_of c.args.program.now) (tables_of c.read_type-in-To.new.program) (tables_of c.add_type-index-in-To.new.self) _ (arrow_owed (tables_of c.args.program.now) (tables_of c.count_word.new.self) (tables_of c.add_grade.new.program) (tables_of c.read_type.new.program) (tables_of c.read_type-in-To.new.program) c.in_ok-inner.ensures.words graded.1 c.in_ok-from-in-To.ensures.grows c.in_ok-to-in-To.ensures.grows) stored.after stored.index;
     }

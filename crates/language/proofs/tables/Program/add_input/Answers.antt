@@ -9,31 +9,18 @@ invariant_of-self c =
     let s = c.args.self.now in
     let items = c.push_reserved.ensures.items in
     let longer = ap length items in
-    let more = length_push (vec_items s.binders) c.args.binder in (
-      search rules,
-      (
-        s.troom,
-        (
-          s.nroom,
-          (
-            s.counted,
-            (
-              omega arith,
-              (
-                omega arith,
-                (
-                  omega arith,
-                  (
-                    s.gradesfew,
-                    (
-                      s.wordsfew,
-                      (subst (BindersSound s.grades) (sym items) (binders_push _ _ _ s.bsound c.requires.fits), (s.tsound, (nodes_more (length (vec_items s.binders)) _ (length (vec_items s.types)) _ (vec_items s.nodes) (omega arith) (omega arith) s.nsound, tt))),
-                    ),
-                  ),
-                ),
-              ),
-            ),
-          ),
-        ),
-      ),
-    )
+    let more = length_push (vec_items s.binders) c.args.binder in
+    record {
+      broom = search rules;
+      troom = s.troom;
+      nroom = s.nroom;
+      counted = s.counted;
+      named = omega arith;
+      declared = omega arith;
+      inputsfew = omega arith;
+      gradesfew = s.gradesfew;
+      wordsfew = s.wordsfew;
+      bsound = subst (BindersSound s.grades) (sym items) (binders_push _ _ _ s.bsound c.requires.fits);
+      tsound = s.tsound;
+      nsound = nodes_more (length (vec_items s.binders)) _ (length (vec_items s.types)) _ (vec_items s.nodes) (omega arith) (omega arith) s.nsound;
+    }

@@ -10,31 +10,18 @@ invariant_of-self c =
     let s = c.args.self.now in
     let items = c.push_reserved.ensures.items in
     let longer = ap length items in
-    let more = length_push (vec_items s.nodes) c.args.node in (
-      s.broom,
-      (
-        s.troom,
-        (
-          search rules,
-          (
-            omega arith,
-            (
-              s.named,
-              (
-                s.declared,
-                (
-                  s.inputsfew,
-                  (
-                    s.gradesfew,
-                    (
-                      s.wordsfew,
-                      (s.bsound, (s.tsound, (subst (NodesSound (length (vec_items s.binders)) (length (vec_items s.types))) (sym items) (nodes_push _ _ _ _ s.nsound (term_fits (tables_of s) _ c.requires.fits)), tt))),
-                    ),
-                  ),
-                ),
-              ),
-            ),
-          ),
-        ),
-      ),
-    )
+    let more = length_push (vec_items s.nodes) c.args.node in
+    record {
+      broom = s.broom;
+      troom = s.troom;
+      nroom = search rules;
+      counted = omega arith;
+      named = s.named;
+      declared = s.declared;
+      inputsfew = s.inputsfew;
+      gradesfew = s.gradesfew;
+      wordsfew = s.wordsfew;
+      bsound = s.bsound;
+      tsound = s.tsound;
+      nsound = subst (NodesSound (length (vec_items s.binders)) (length (vec_items s.types))) (sym items) (nodes_push _ _ _ _ s.nsound (term_fits (tables_of s) _ c.requires.fits));
+    }
