@@ -1,5 +1,5 @@
 -- What begins a part, by the grammar and by the reader; and readings that succeeded, taken apart. Assumes nothing.
-use Rattle.std.proofs.Common.{◌≡◌, ℕ, ◌+◌, ◌-◌, ◌<◌, ◌≤◌, Bool, true, false, cond, ◌||◌, List, ◌∷◌, Some, None, Ok, Err, Option, Result, sym, refl, ap, ◌∙◌, subst, arith}
+use Rattle.std.proofs.Common.{◌≡◌, ℕ, ◌-◌, ◌<◌, Bool, true, false, cond, List, Some, None, Ok, Err, Option, Result, sym, refl, ap, ◌∙◌, subst, arith}
 use Rattle.std.proofs.lemmas.Bool.{cond-false, or_from, or_parts, ne_eqb, lt-leb, leb-false, eqb-false}
 use Rattle.tokens.specs.declared.refusal.Fault.{Fault}
 use Rattle.tokens.specs.declared.keyword.Keyword.{Keyword}
@@ -7,7 +7,6 @@ use Rattle.tokens.specs.declared.keyword.Keyword.TheVariants as keywords
 use Rattle.language.specs.declared.heads.TypeHead.{TypeHead}
 use Rattle.language.specs.declared.heads.TypeHead.TheVariants as type-heads
 use Rattle.language.specs.declared.heads.TermHead.{TermHead}
-use Rattle.language.specs.declared.heads.TermHead.TheVariants as heads
 use Rattle.language.specs.declared.heads.RuleHead.{RuleHead}
 use Rattle.language.specs.declared.heads.RuleHead.TheVariants as rule-heads
 use Rattle.tokens.specs.Keywords.{keyword_of}

@@ -1,7 +1,5 @@
 -- Every sentence within the limits is read, and stored as its rule is. Assumes nothing.
-use Rattle.std.proofs.Common.{◌≡◌, ℕ, ◌+◌, ◌-◌, ◌<◌, ◌≤◌, List, [], ◌∷◌, Ok, Option, Result, sym, refl, ap, ◌∙◌, subst, arith}
-use Rattle.language.specs.declared.program.Term.TheVariants.{Fn}
-use Rattle.tokens.specs.declared.keyword.Keyword.TheVariants as keywords
+use Rattle.std.proofs.Common.{◌≡◌, ℕ, ◌+◌, ◌-◌, ◌≤◌, List, [], Ok, Option, sym, refl, ap, ◌∙◌, subst, arith}
 use Rattle.language.specs.declared.heads.Parsed.{Parsed}
 use Rattle.language.specs.declared.heads.TypeHead.TheVariants as type-heads
 use Rattle.language.specs.declared.heads.TermHead.{TermHead}
@@ -9,7 +7,7 @@ use Rattle.language.specs.declared.heads.TermHead.TheVariants as heads
 use Rattle.language.specs.declared.heads.RuleHead.TheVariants as rule-heads
 use Rattle.tokens.specs.Tokens.{Lexeme, word, number, grade, end, Lexed, token_at}
 use Rattle.language.specs.Reading.{◌then◌, State, Read, changed, with_word, with_binder, parsed, formed, graded, grade_or, grade_of, binder_grade, binder, bound, simple_type, term, term_parts, store_term, rule, ended}
-use Rattle.grammar.specs.Syntax.{Label, Ty, Tm, Rule, run, type_words, type_grades, type_depth, term_words, term_grades, term_depth, rule_inputs, rule_grades, run_of}
+use Rattle.grammar.specs.Syntax.{Label, Ty, Tm, Rule, type_words, type_grades, type_depth, term_words, term_grades, term_depth, rule_inputs, rule_grades, run_of}
 use Rattle.grammar.specs.Grammar.{Lexes, none, more, Ungraded, NoGrade, BinderIn, graded as written, bare, TypeIn, num_type, function_type, TermIn, begun, PartsIn, name_parts, literal_parts, fn_parts, binary_parts, half_parts, less_parts, RuleIn, input-rule, run_rule}
 use Rattle.grammar.specs.Storing.{keep_grade, entry, place_of, typed, parted, termed, ruled}
 use Rattle.grammar.proofs.Beginnings.{head_of, name_is, type_is, rule_is, counted_is, graded_is}

@@ -1,5 +1,5 @@
 -- Terms that are read are terms of the grammar. Assumes nothing.
-use Rattle.std.proofs.Common.{◌≡◌, ℕ, zero, suc, ◌+◌, ◌-◌, ◌<◌, ◌≤◌, List, ◌∷◌, length, Ok, Option, sym, ap, ◌∙◌, subst, arith}
+use Rattle.std.proofs.Common.{◌≡◌, ℕ, zero, suc, ◌-◌, ◌<◌, ◌≤◌, List, ◌∷◌, length, Ok, Option, sym, ap, ◌∙◌, subst, arith}
 use Rattle.language.specs.declared.program.Term.TheVariants.{Fn, Half, Less}
 use Rattle.language.specs.declared.heads.Binary.{Binary}
 use Rattle.language.specs.declared.heads.Parsed.{Parsed}

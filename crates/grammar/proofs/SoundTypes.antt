@@ -1,6 +1,6 @@
 -- Binders and types that are read are binders and types of the grammar. Assumes nothing.
-use Rattle.std.proofs.Common.{◌≡◌, ℕ, zero, suc, ◌+◌, ◌-◌, ◌<◌, ◌≤◌, List, ◌∷◌, length, Some, None, Ok, Option, Result, sym, refl, ap, ◌∙◌, subst, arith}
-use Rattle.language.specs.declared.program.SimpleType.TheVariants.{Num, To}
+use Rattle.std.proofs.Common.{◌≡◌, ℕ, zero, suc, ◌+◌, ◌-◌, ◌<◌, ◌≤◌, List, ◌∷◌, length, Some, None, Ok, Option, sym, refl, ap, ◌∙◌, subst, arith}
+use Rattle.language.specs.declared.program.SimpleType.TheVariants.{To}
 use Rattle.language.specs.declared.heads.Parsed.{Parsed}
 use Rattle.language.specs.declared.heads.TypeHead.{TypeHead}
 use Rattle.language.specs.declared.heads.TypeHead.TheVariants as type-heads

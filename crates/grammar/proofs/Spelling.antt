@@ -1,5 +1,5 @@
 -- The names of a sentence stand in its text where their labels say. Assumes nothing.
-use Rattle.std.proofs.Common.{◌≡◌, ℕ, ◌+◌, ◌-◌, ◌≤◌, Bool, true, false, cond, eqb, ltb, leb, List, ◌∷◌, length, get_or, drop, ℤ, Some, None, Ok, Err, Option, Result, refl, ap, ◌∙◌, subst, arith, length-drop, length-take}
+use Rattle.std.proofs.Common.{◌≡◌, ℕ, ◌+◌, ◌-◌, ◌≤◌, Bool, true, false, cond, eqb, ltb, leb, List, length, get_or, drop, ℤ, Some, None, Ok, Err, Option, Result, refl, ap, ◌∙◌, subst, arith, length-drop, length-take}
 use Rattle.std.specs.List.{between}
 use Rattle.std.proofs.lemmas.Bool.{leb-false}
 use Rattle.text.specs.declared.scan.Class.TheVariants.{Blank, Digit, Wordy, Inside}

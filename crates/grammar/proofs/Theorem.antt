@@ -2,7 +2,7 @@
 use Rattle.std.proofs.Common.{◌≡◌, ℕ, ◌+◌, ◌≤◌, Bool, true, false, cond, List, [], length, Ok, Err, Option, Result, sym, refl, ap, ◌∙◌, subst, arith}
 use Rattle.std.proofs.lemmas.Bool.{cond-false, ne_eqb, eqb-false, le-ltb, ltb-false}
 use Rattle.tokens.specs.declared.refusal.Fault.{Fault}
-use Rattle.language.specs.Reading.{State, state, no_tables, rule, text_read}
+use Rattle.language.specs.Reading.{State, state, no_tables, text_read}
 use Rattle.grammar.specs.Syntax.{Rule}
 use Rattle.grammar.specs.Grammar.{RuleIn}
 use Rattle.grammar.specs.Storing.{ruled}

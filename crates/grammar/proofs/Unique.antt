@@ -2,7 +2,6 @@
 use Rattle.std.proofs.Common.{◌≡◌, ℕ, List, ◌∷◌, Some, Option, sym, refl, ap, ◌∙◌, subst, arith}
 use Rattle.tokens.specs.declared.keyword.Keyword.TheVariants as keywords
 use Rattle.language.specs.declared.heads.TermHead.{TermHead}
-use Rattle.language.specs.declared.heads.TermHead.TheVariants as heads
 use Rattle.tokens.specs.Keywords.{keyword_of}
 use Rattle.tokens.specs.Tokens.{Lexeme, word, grade, Lexed}
 use Rattle.grammar.specs.Syntax.{Label, Ty, to, Tm, fn, binary, half, less, Rule, input, run}

@@ -1,5 +1,5 @@
 -- How a rule is stored in the tables of a program and in the grade list: every term and type behind its parts. Assumes nothing.
-use Rattle.std.specs.Prelude.{ℕ, ◌+◌, List, [], length, slice_set}
+use Rattle.std.specs.Prelude.{ℕ, length, slice_set}
 use Rattle.language.specs.declared.program.Binder.{Binder}
 use Rattle.language.specs.declared.program.SimpleType.{SimpleType}
 use Rattle.language.specs.declared.program.SimpleType.TheVariants.{Num, To}

@@ -1,5 +1,5 @@
 -- Reading a rule: what its tables hold, or the first fault. Assumes nothing.
-use Rattle.std.specs.Prelude.{ℕ, zero, suc, ◌+◌, ◌-◌, Bool, true, false, cond, ◌||◌, List, [], ◌∷◌, ◌++◌, length, take, drop, replicate, ℤ, Some, None, Ok, Err, vec_items, Option, Result, ◌==◌, nat_le, nat_lt, slice_set}
+use Rattle.std.specs.Prelude.{ℕ, zero, suc, ◌+◌, ◌-◌, cond, ◌||◌, List, [], ◌∷◌, ◌++◌, length, take, drop, replicate, Some, None, Ok, Err, vec_items, Option, Result, ◌==◌, nat_le, nat_lt, slice_set}
 use Rattle.std.specs.Borrow.{Bor}
 use Rattle.tokens.specs.declared.refusal.Fault.{Fault}
 use Rattle.tokens.specs.declared.refusal.Refusal.TheVariants.{ShortList, NoText, LongText, Unexpected, NotOpen, Limit}
@@ -25,7 +25,7 @@ use Rattle.language.specs.declared.heads.Formed.{Formed}
 use Rattle.language.specs.declared.reader.Bound as reader
 use Rattle.tokens.specs.Keywords.{keyword_of}
 use Rattle.language.specs.Scopes.{find}
-use Rattle.tokens.specs.Tokens.{Lexeme, word, number, grade, end, Lexed, fault, token_at}
+use Rattle.tokens.specs.Tokens.{Lexeme, word, number, grade, end, fault, token_at}
 
 -- the tables of a program: its binders, types and terms, the number of its inputs and grades, and the words counted
 pub record Tables : Type 0 where

@@ -1,4 +1,4 @@
-use Rattle.std.proofs.Common.{◌≡◌, ◌-◌, ◌∷◌, sym, ap, ◌∙◌, arith}
+use Rattle.std.proofs.Common.{◌-◌, ◌∷◌, sym, ap, ◌∙◌, arith}
 use Rattle.language.specs.Scopes.{open_names}
 use Rattle.language.specs.Reading.{state, state_of, rule}
 use Rattle.language.proofs.Chains.{goes_on, ends, failed, input_begun}

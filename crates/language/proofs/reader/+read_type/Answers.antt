@@ -1,9 +1,7 @@
-use Rattle.std.proofs.Common.{◌+◌, ◌<◌, ◌≤◌}
 use Rattle.language.specs.declared.program.SimpleType.TheVariants.{Num}
 use Rattle.language.specs.Reading.{tables_of, state_of}
 use Rattle.language.proofs.Chains.{failed, nothing_made, num_read, from_failed, to_failed, arrow_read}
 use Rattle.language.proofs.Growth.{grown_word, room, type_grown, arrow_owed, arrow_fits}
-use Rattle.language.proofs.reader.+read_type.Given as given
 use Rattle.language.proofs.reader.+read_type.Goals as goal
 
 pub returns-in-Num : goal.returns-in-Num

@@ -1,4 +1,4 @@
-use Rattle.std.proofs.Common.{◌≡◌, ◌+◌, ◌-◌, ◌<◌, map, length, refl, ap, ◌∙◌, add-one, arith, rules}
+use Rattle.std.proofs.Common.{◌≡◌, ◌+◌, ◌<◌, map, length, refl, ap, ◌∙◌, add-one, arith, rules}
 use Rattle.std.proofs.lemmas.List.{map-set, length-map}
 use Rattle.language.specs.Scopes.{opened}
 use Rattle.language.proofs.Scopes.{opened_more}

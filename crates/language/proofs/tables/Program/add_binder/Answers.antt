@@ -1,4 +1,4 @@
-use Rattle.std.proofs.Common.{◌≡◌, ◌+◌, ◌≤◌, ◌∷◌, ◌++◌, length, vec_items, sym, ap, subst, arith, rules}
+use Rattle.std.proofs.Common.{length, vec_items, sym, ap, subst, arith, rules}
 use Rattle.std.proofs.lemmas.List.{length_push}
 use Rattle.language.specs.Tables.{BindersSound}
 use Rattle.language.proofs.Sound.{binders_push, nodes_more}
