@@ -1,5 +1,5 @@
 -- What a session has, and what its calls do. Assumes nothing.
-use Rattle.std.specs.Prelude.{ℕ, cond, List, [], length, take, drop, Some, None, Ok, Err, Option, Result, nat_lt, slice_index_or}
+use Rattle.std.specs.Prelude.{ℕ, cond, List, length, take, drop, Some, None, Ok, Err, Option, Result, nat_lt, slice_index_or}
 use Rattle.tokens.specs.declared.refusal.Fault.{Fault}
 use Rattle.tokens.specs.declared.refusal.Refusal.TheVariants.{ShortList}
 use Rattle.language.specs.declared.program.Binder.{Binder}

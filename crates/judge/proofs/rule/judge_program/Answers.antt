@@ -15,11 +15,11 @@ judge_rule-requires g c =
     let some = some_entry _ _ c.is_empty.ensures c.if-is_empty.false in
     (search (rules, room_for), (c.if-grades-lt-GRADES.false, omega (arith, program.nodes.ok.0)))
 
-pub shared-whole-as_slice·used : goal.shared-whole-as_slice·used
-shared-whole-as_slice·used g c = search (rules, room_for)
+pub shared_whole_as_slice-used : goal.shared_whole_as_slice-used
+shared_whole_as_slice-used g c = search (rules, room_for)
 
-pub shared-whole-as_slice·used-in-Err : goal.shared-whole-as_slice·used-in-Err
-shared-whole-as_slice·used-in-Err g c = search (rules, room_for)
+pub shared_whole_as_slice-used-in-Err : goal.shared_whole_as_slice-used-in-Err
+shared_whole_as_slice-used-in-Err g c = search (rules, room_for)
 
 pub report-requires : goal.report-requires
 report-requires g c =

@@ -5,7 +5,7 @@ use Rattle.tokens.specs.Tokens.{fault}
 use Rattle.language.specs.declared.program.SimpleType.TheVariants.{Num}
 use Rattle.language.specs.declared.program.Term.TheVariants.{Name, Number, Fn, Call, Add, Sub, Half, Less}
 use Rattle.language.specs.Tables.{no_binder, type_sound}
-use Rattle.language.specs.Reading.{tables_of, ◌then◌}
+use Rattle.language.specs.Reading.{tables_of}
 use Rattle.language.proofs.Chains.{ends}
 use Rattle.grammar.specs.Recovering.{label_of}
 use Rattle.typing.specs.Judging.{judged, both}
@@ -453,8 +453,8 @@ judge_term-judge_numbers-requires g t c κs within =
     let r : c.in-Add.right < length tables.nodes = omega (arith, c.requires.there) in
     (search rules, (search rules, (search rules, ((l, r), ready_as (term_in a.nil list tables 0 (Add c.in-Add.left c.in-Add.right)) ready (omega arith) (omega arith) (omega arith)))))
 
-pub judge_term-returns-in_err-judge_numbers : goal.judge_term-returns-in_err-judge_numbers
-judge_term-returns-in_err-judge_numbers g t c =
+pub judge_term-returns-in_err-judge_numbers-in-Add : goal.judge_term-returns-in_err-judge_numbers-in-Add
+judge_term-returns-in_err-judge_numbers-in-Add g t c =
     let a = g.G.Algebra in
     let list = c.args.grades.now in
     let tables = tables_of c.args.program.now in
@@ -466,7 +466,7 @@ judge_term-returns-in_err-judge_numbers g t c =
     let is = node_term tables _ _ nodes c.args.node c.requires.there node c.index.ensures a.nil list (Add c.in-Add.left c.in-Add.right) c.in-Add.is in
     let ready = subst (Ready list tables types context) is c.requires.ready in
     refused_judges a list context (term_at a.nil list tables c.args.node) types (vec_items c.judge_numbers.new.types.types) c.from_residual.result c.judge_numbers.new.usage (broke c.from_residual.result c.from_residual.ensures.1)
-    (ap (judged a (context_types a.nil list types context)) is ∙ ends _ _ _ c.in_err-judge_numbers.ensures.answer)
+    (ap (judged a (context_types a.nil list types context)) is ∙ ends _ _ _ c.in_err-judge_numbers-in-Add.ensures.answer)
 
 pub judge_term-judge_numbers-requires-in-Sub : goal.judge_term-judge_numbers-requires-in-Sub
 judge_term-judge_numbers-requires-in-Sub g t c κs within =
@@ -486,8 +486,8 @@ judge_term-judge_numbers-requires-in-Sub g t c κs within =
     let r : c.in-Sub.right < length tables.nodes = omega (arith, c.requires.there) in
     (search rules, (search rules, (search rules, ((l, r), ready_as (term_in a.nil list tables 0 (Add c.in-Sub.left c.in-Sub.right)) ready (omega arith) (omega arith) (omega arith)))))
 
-pub judge_term-returns-in_err-judge_numbers-2 : goal.judge_term-returns-in_err-judge_numbers-2
-judge_term-returns-in_err-judge_numbers-2 g t c =
+pub judge_term-returns-in_err-judge_numbers-in-Sub : goal.judge_term-returns-in_err-judge_numbers-in-Sub
+judge_term-returns-in_err-judge_numbers-in-Sub g t c =
     let a = g.G.Algebra in
     let list = c.args.grades.now in
     let tables = tables_of c.args.program.now in
@@ -498,8 +498,8 @@ judge_term-returns-in_err-judge_numbers-2 g t c =
     let older = node_older tables _ _ nodes c.args.node c.requires.there node c.index.ensures (Sub c.in-Sub.left c.in-Sub.right) c.in-Sub.is in
     let is = node_term tables _ _ nodes c.args.node c.requires.there node c.index.ensures a.nil list (Sub c.in-Sub.left c.in-Sub.right) c.in-Sub.is in
     let ready = subst (Ready list tables types context) is c.requires.ready in
-    refused_judges a list context (term_at a.nil list tables c.args.node) types (vec_items c.judge_numbers-in-Sub.new.types.types) c.from_residual-in_err-judge_numbers-2.result c.judge_numbers-in-Sub.new.usage (broke c.from_residual-in_err-judge_numbers-2.result c.from_residual-in_err-judge_numbers-2.ensures.1)
-    (ap (judged a (context_types a.nil list types context)) is ∙ ends _ _ _ c.in_err-judge_numbers-2.ensures.answer)
+    refused_judges a list context (term_at a.nil list tables c.args.node) types (vec_items c.judge_numbers-in-Sub.new.types.types) c.from_residual-in_err-judge_numbers-in-Sub.result c.judge_numbers-in-Sub.new.usage (broke c.from_residual-in_err-judge_numbers-in-Sub.result c.from_residual-in_err-judge_numbers-in-Sub.ensures.1)
+    (ap (judged a (context_types a.nil list types context)) is ∙ ends _ _ _ c.in_err-judge_numbers-in-Sub.ensures.answer)
 
 pub judge_term-judge_number-requires : goal.judge_term-judge_number-requires
 judge_term-judge_number-requires g t c κs within =
@@ -516,8 +516,8 @@ judge_term-judge_number-requires g t c κs within =
     let part : c.in-Half.part < length tables.nodes = omega (arith, c.requires.there) in
     (search rules, (search rules, (search rules, (part, ready_as (term_at a.nil list tables c.in-Half.part) ready (omega arith) (omega arith) (omega arith)))))
 
-pub judge_term-returns-in_err-judge_number : goal.judge_term-returns-in_err-judge_number
-judge_term-returns-in_err-judge_number g t c =
+pub judge_term-returns-in_err-judge_number-in-Half : goal.judge_term-returns-in_err-judge_number-in-Half
+judge_term-returns-in_err-judge_number-in-Half g t c =
     let a = g.G.Algebra in
     let list = c.args.grades.now in
     let tables = tables_of c.args.program.now in
@@ -528,8 +528,8 @@ judge_term-returns-in_err-judge_number g t c =
     let older = node_older tables _ _ nodes c.args.node c.requires.there node c.index.ensures (Half c.in-Half.part) c.in-Half.is in
     let is = node_term tables _ _ nodes c.args.node c.requires.there node c.index.ensures a.nil list (Half c.in-Half.part) c.in-Half.is in
     let ready = subst (Ready list tables types context) is c.requires.ready in
-    refused_judges a list context (term_at a.nil list tables c.args.node) types (vec_items c.judge_number.new.types.types) c.from_residual-in_err-judge_number.result c.judge_number.new.usage (broke c.from_residual-in_err-judge_number.result c.from_residual-in_err-judge_number.ensures.1)
-    (ap (judged a (context_types a.nil list types context)) is ∙ ends _ _ _ c.in_err-judge_number.ensures.answer)
+    refused_judges a list context (term_at a.nil list tables c.args.node) types (vec_items c.judge_number.new.types.types) c.from_residual-in_err-judge_number-in-Half.result c.judge_number.new.usage (broke c.from_residual-in_err-judge_number-in-Half.result c.from_residual-in_err-judge_number-in-Half.ensures.1)
+    (ap (judged a (context_types a.nil list types context)) is ∙ ends _ _ _ c.in_err-judge_number-in-Half.ensures.answer)
 
 pub judge_term-judge_less-requires : goal.judge_term-judge_less-requires
 judge_term-judge_less-requires g t c κs within =
@@ -612,8 +612,8 @@ judge_term-returns-in-Call g t c =
     let ready = subst (Ready list tables types context) is c.requires.ready in
     subst (λ u. Judges a list context u types (vec_items c.judge_call.new.types.types) c.judge_call.result c.judge_call.new.usage) (sym is) (judges_as (term_in a.nil list tables node.place (Call c.in-Call.function c.in-Call.argument)) c.judge_call.result c.judge_call.ensures refl (omega arith))
 
-pub judge_term-returns-in_ok-judge_numbers : goal.judge_term-returns-in_ok-judge_numbers
-judge_term-returns-in_ok-judge_numbers g t c =
+pub judge_term-returns-in_ok-judge_numbers-in-Add : goal.judge_term-returns-in_ok-judge_numbers-in-Add
+judge_term-returns-in_ok-judge_numbers-in-Add g t c =
     let a = g.G.Algebra in
     let list = c.args.grades.now in
     let tables = tables_of c.args.program.now in
@@ -624,10 +624,10 @@ judge_term-returns-in_ok-judge_numbers g t c =
     let older = node_older tables _ _ nodes c.args.node c.requires.there node c.index.ensures (Add c.in-Add.left c.in-Add.right) c.in-Add.is in
     let is = node_term tables _ _ nodes c.args.node c.requires.there node c.index.ensures a.nil list (Add c.in-Add.left c.in-Add.right) c.in-Add.is in
     let ready = subst (Ready list tables types context) is c.requires.ready in
-    subst (λ u. Judges a list context u types (vec_items c.judge_numbers.new.types.types) (Ok Num) c.judge_numbers.new.usage) (sym is) (number_exit a list context (term_in a.nil list tables node.place (Add c.in-Add.left c.in-Add.right)) c.in_ok-judge_numbers.ensures refl (omega arith))
+    subst (λ u. Judges a list context u types (vec_items c.judge_numbers.new.types.types) (Ok Num) c.judge_numbers.new.usage) (sym is) (number_exit a list context (term_in a.nil list tables node.place (Add c.in-Add.left c.in-Add.right)) c.in_ok-judge_numbers-in-Add.ensures refl (omega arith))
 
-pub judge_term-returns-in_ok-judge_numbers-2 : goal.judge_term-returns-in_ok-judge_numbers-2
-judge_term-returns-in_ok-judge_numbers-2 g t c =
+pub judge_term-returns-in_ok-judge_numbers-in-Sub : goal.judge_term-returns-in_ok-judge_numbers-in-Sub
+judge_term-returns-in_ok-judge_numbers-in-Sub g t c =
     let a = g.G.Algebra in
     let list = c.args.grades.now in
     let tables = tables_of c.args.program.now in
@@ -638,10 +638,10 @@ judge_term-returns-in_ok-judge_numbers-2 g t c =
     let older = node_older tables _ _ nodes c.args.node c.requires.there node c.index.ensures (Sub c.in-Sub.left c.in-Sub.right) c.in-Sub.is in
     let is = node_term tables _ _ nodes c.args.node c.requires.there node c.index.ensures a.nil list (Sub c.in-Sub.left c.in-Sub.right) c.in-Sub.is in
     let ready = subst (Ready list tables types context) is c.requires.ready in
-    subst (λ u. Judges a list context u types (vec_items c.judge_numbers-in-Sub.new.types.types) (Ok Num) c.judge_numbers-in-Sub.new.usage) (sym is) (number_exit a list context (term_in a.nil list tables node.place (Sub c.in-Sub.left c.in-Sub.right)) c.in_ok-judge_numbers-2.ensures refl (omega arith))
+    subst (λ u. Judges a list context u types (vec_items c.judge_numbers-in-Sub.new.types.types) (Ok Num) c.judge_numbers-in-Sub.new.usage) (sym is) (number_exit a list context (term_in a.nil list tables node.place (Sub c.in-Sub.left c.in-Sub.right)) c.in_ok-judge_numbers-in-Sub.ensures refl (omega arith))
 
-pub judge_term-returns-in_ok-judge_number : goal.judge_term-returns-in_ok-judge_number
-judge_term-returns-in_ok-judge_number g t c =
+pub judge_term-returns-in_ok-judge_number-in-Half : goal.judge_term-returns-in_ok-judge_number-in-Half
+judge_term-returns-in_ok-judge_number-in-Half g t c =
     let a = g.G.Algebra in
     let list = c.args.grades.now in
     let tables = tables_of c.args.program.now in
@@ -652,7 +652,7 @@ judge_term-returns-in_ok-judge_number g t c =
     let older = node_older tables _ _ nodes c.args.node c.requires.there node c.index.ensures (Half c.in-Half.part) c.in-Half.is in
     let is = node_term tables _ _ nodes c.args.node c.requires.there node c.index.ensures a.nil list (Half c.in-Half.part) c.in-Half.is in
     let ready = subst (Ready list tables types context) is c.requires.ready in
-    subst (λ u. Judges a list context u types (vec_items c.judge_number.new.types.types) (Ok Num) c.judge_number.new.usage) (sym is) (number_exit a list context (term_in a.nil list tables node.place (Half c.in-Half.part)) c.in_ok-judge_number.ensures refl (omega arith))
+    subst (λ u. Judges a list context u types (vec_items c.judge_number.new.types.types) (Ok Num) c.judge_number.new.usage) (sym is) (number_exit a list context (term_in a.nil list tables node.place (Half c.in-Half.part)) c.in_ok-judge_number-in-Half.ensures refl (omega arith))
 
 pub judge_term-returns-in-Less : goal.judge_term-returns-in-Less
 judge_term-returns-in-Less g t c =
