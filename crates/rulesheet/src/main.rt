@@ -7,6 +7,7 @@ mod lines;
 mod listing;
 mod readings;
 
+use anyhow::{Result, bail};
 use kind::{Kind, kind_of};
 use levels::Level;
 use lines::first_line;
@@ -15,23 +16,24 @@ use pairings::Pair;
 use readings::readings_of;
 use spans::Span;
 use std::io::{Read, Write};
+use std::process::ExitCode;
 
 const BAD_KIND: &str = "the first line has to be the kind of the grades: span, level or span|level";
 
 const BAD_READINGS: &str =
     "the second line has to be readings: whole numbers from -2147483648 to 2147483647, with blanks between";
 
-fn run(rt: &HostRuntime) -> anyhow::Result<()> {
+fn run(rt: &HostRuntime) -> Result<()> {
     let heap = rt.alloc();
     let mut input = Vec::new(heap);
     rt.stdin().read_to_end(&mut input)?;
     let (first, rest) = first_line(input.as_slice());
     let (second, text) = first_line(rest);
     let Some(kind) = kind_of(first) else {
-        return Err(BAD_KIND.into());
+        bail!("{BAD_KIND}");
     };
     let Some(_readings) = readings_of(heap, second)? else {
-        return Err(BAD_READINGS.into());
+        bail!("{BAD_READINGS}");
     };
     let out = match kind {
         Kind::Span => listed::<Span>(heap, text)?,
@@ -42,12 +44,13 @@ fn run(rt: &HostRuntime) -> anyhow::Result<()> {
     Ok(())
 }
 
-fn main(rt: HostRuntime) -> anyhow::Result<()> {
+// What goes wrong is one line on standard error, and status 1.
+fn main(rt: HostRuntime) -> ExitCode {
     match run(&rt) {
-        Ok(()) => Ok(()),
+        Ok(()) => ExitCode::SUCCESS,
         Err(e) => {
-            eprintln!(rt; "rulesheet: {e}")?;
-            Err(e)
+            let _ = eprintln!(rt; "rulesheet: {e}");
+            ExitCode::FAILURE
         }
     }
 }

@@ -9,4 +9,4 @@ pub returns : goal.returns
 returns g c =
     let load = loaded g.G.Written.reading g.G.Algebra.unit g.G.Algebra.nil c.args.text.now in
     IfOk-weaker c.load_printed.result (λ v. vec_items v ≡ listing g.G.Written.writing g.G.Algebra.nil c.args.text.now (load (model_of c.in_ok-session.session) c.as_mut_slice.result.now)) (λ v. vec_items v ≡ listing g.G.Written.writing g.G.Algebra.nil c.args.text.now (load no_rule (replicate 256 g.G.Algebra.nil)))
-    (λ v h. printed_first g.G.Written.writing g.G.Algebra.nil c.args.text.now load (model_of c.in_ok-session.session) c.as_mut_slice.result.now (replicate 256 g.G.Algebra.nil) c.in_ok-session.ensures (c.as_mut_slice.ensures.value ∙ c.in_ok-grades.ensures) (vec_items v) h) c.load_printed.ensures
+    (λ v h. printed_first g.G.Written.writing g.G.Algebra.nil c.args.text.now load (model_of c.in_ok-session.session) c.as_mut_slice.result.now (replicate 256 g.G.Algebra.nil) c.in_ok-session.ensures.ok (c.as_mut_slice.ensures.value ∙ c.in_ok-grades.ensures) (vec_items v) h) c.load_printed.ensures
