@@ -15,14 +15,14 @@ pub fn grades_of<G: Written>(heap: Global, grade: G, count: usize) -> Result<Vec
     Ok(grades)
 }
 
-// Checks the grade at the place `i` of a list.
-pub fn expect_grade<G: Algebra>(grades: &[G], i: usize, grade: G) -> Result<(), Fail> {
+// Checks the grade at the place `i` of a list. A failure names the rule.
+pub fn expect_grade<G: Algebra>(grades: &[G], i: usize, grade: G, rule: &str) -> Result<(), Fail> {
     match grades.get(i) {
         Some(found) => match found.same(grade) {
             true => Ok(()),
-            false => Err(Fail::new(format_args!("another grade at {i}"))),
+            false => Err(Fail::new(format_args!("another grade at {i}: {rule}"))),
         },
-        None => Err(Fail::new(format_args!("no grade at {i}"))),
+        None => Err(Fail::new(format_args!("no grade at {i}: {rule}"))),
     }
 }
 
@@ -32,9 +32,10 @@ pub fn expect_grades<G: Algebra>(
     from: usize,
     to: usize,
     grade: G,
+    rule: &str,
 ) -> Result<(), Fail> {
     for i in from..to {
-        expect_grade(grades, i, grade)?;
+        expect_grade(grades, i, grade, rule)?;
     }
     Ok(())
 }

@@ -34,31 +34,32 @@ fn expect_judge<G: Algebra>(
     work: &mut [G],
     number: u8,
     place: usize,
+    text: &str,
 ) -> Result<(), Fail> {
     let (got, at) = answer(session.judge(grades, work));
     if got == number && at == place {
         return Ok(());
     }
-    Err(Fail::new(format_args!("judge: {got} at {at}, not {number} at {place}")))
+    Err(Fail::new(format_args!("judge: {got} at {at}, not {number} at {place}: {text}")))
 }
 
 // Checks that the 2,592 places of a work list are zero from the place `from` on, and that the place behind them is as it was.
-fn expect_zeros<G: Algebra>(work: &[G], from: usize) -> Result<(), Fail> {
-    expect_grades(work, from, WORK, G::zero())?;
-    expect_grade(work, WORK, G::one())
+fn expect_zeros<G: Algebra>(work: &[G], from: usize, text: &str) -> Result<(), Fail> {
+    expect_grades(work, from, WORK, G::zero(), text)?;
+    expect_grade(work, WORK, G::one(), text)
 }
 
 // Checks that a work list begins with the grades of the usages, which stand in a text with blanks between them.
-fn expect_usages<G: Written>(work: &[G], usages: &str) -> Result<(), Fail> {
+fn expect_usages<G: Written>(work: &[G], usages: &str, text: &str) -> Result<(), Fail> {
     let mut inputs = 0usize;
     for usage in usages.split_whitespace() {
         match G::read(usage.as_bytes()) {
-            Some((grade, len)) if len == usage.len() => expect_grade(work, inputs, grade)?,
+            Some((grade, len)) if len == usage.len() => expect_grade(work, inputs, grade, text)?,
             _ => return Err(Fail::new("no such grade")),
         }
         inputs = inputs.saturating_add(1);
     }
-    expect_zeros(work, inputs)
+    expect_zeros(work, inputs, text)
 }
 
 // The work list after a text is loaded and judged. It had one in all its 2,593 places.
@@ -73,21 +74,21 @@ fn judged<G: Written>(heap: Global, text: &str, number: u8, place: usize) -> Res
         work.as_mut_slice(),
         number,
         place,
-    )
-    .note(text)?;
+        text,
+    )?;
     Ok(work)
 }
 
 // Checks that a rule is accepted, with the least usages of its inputs in order.
 fn accepted<G: Written>(heap: Global, text: &str, usages: &str) -> Result<(), Fail> {
     let work = judged::<G>(heap, text, 0, 0)?;
-    expect_usages(work.as_slice(), usages).note(text)
+    expect_usages(work.as_slice(), usages, text)
 }
 
 // Checks that a rule is refused with the number at the place.
 fn refused<G: Written>(heap: Global, text: &str, number: u8, place: usize) -> Result<(), Fail> {
     let work = judged::<G>(heap, text, number, place)?;
-    expect_zeros(work.as_slice(), 0).note(text)
+    expect_zeros(work.as_slice(), 0, text)
 }
 
 #[test]
@@ -237,10 +238,11 @@ fn expect_kept(
     grades: &[Span],
     places: usize,
     number: u8,
+    text: &str,
 ) -> Result<(), Fail> {
     let mut work = grades_of(heap, <Span as Algebra>::one(), places)?;
-    expect_judge(session, grades, work.as_mut_slice(), number, 0)?;
-    expect_grades(work.as_slice(), 0, places, <Span as Algebra>::one())
+    expect_judge(session, grades, work.as_mut_slice(), number, 0, text)?;
+    expect_grades(work.as_slice(), 0, places, <Span as Algebra>::one(), text)
 }
 
 // Checks a judging of a session whose rule has no inputs, or is refused.
@@ -250,17 +252,23 @@ fn expect_cleared(
     grades: &[Span],
     number: u8,
     place: usize,
+    text: &str,
 ) -> Result<(), Fail> {
     let mut work = grades_of(heap, <Span as Algebra>::one(), WORK + 1)?;
-    expect_judge(session, grades, work.as_mut_slice(), number, place)?;
-    expect_zeros(work.as_slice(), 0)
+    expect_judge(session, grades, work.as_mut_slice(), number, place, text)?;
+    expect_zeros(work.as_slice(), 0, text)
 }
 
 // Checks that lists with a place too few are refused, and leave the work list.
-fn expect_short(heap: Global, session: &mut Session, grades: &[Span]) -> Result<(), Fail> {
+fn expect_short(
+    heap: Global,
+    session: &mut Session,
+    grades: &[Span],
+    text: &str,
+) -> Result<(), Fail> {
     let short = grades_of(heap, <Span as Algebra>::one(), 255)?;
-    expect_kept(heap, session, short.as_slice(), 2593, 1)?;
-    expect_kept(heap, session, grades, 2591, 1)
+    expect_kept(heap, session, short.as_slice(), 2593, 1, text)?;
+    expect_kept(heap, session, grades, 2591, 1, text)
 }
 
 // The lists are tested before the program.
@@ -269,10 +277,10 @@ fn before_a_load(rt: HostRuntime) -> Result<(), Fail> {
     let heap = rt.alloc();
     let mut session = Session::new(heap)?;
     let mut grades = grades_of(heap, <Span as Algebra>::one(), 256)?;
-    expect_short(heap, &mut session, grades.as_slice())?;
-    expect_kept(heap, &mut session, grades.as_slice(), 2593, 10)?;
+    expect_short(heap, &mut session, grades.as_slice(), "")?;
+    expect_kept(heap, &mut session, grades.as_slice(), 2593, 10, "")?;
     expect_load(&mut session, "run", grades.as_mut_slice(), 7, 3)?;
-    expect_kept(heap, &mut session, grades.as_slice(), 2593, 10)
+    expect_kept(heap, &mut session, grades.as_slice(), 2593, 10, "run")
 }
 
 // The lists are tested before the verdict, and lists that are just long enough will do.
@@ -282,11 +290,18 @@ fn shortest_lists(rt: HostRuntime) -> Result<(), Fail> {
     let mut session = Session::new(heap)?;
     let mut grades = grades_of(heap, <Span as Algebra>::one(), 256)?;
     expect_load(&mut session, "run 5", grades.as_mut_slice(), 0, 0)?;
-    expect_short(heap, &mut session, grades.as_slice())?;
+    expect_short(heap, &mut session, grades.as_slice(), "run 5")?;
     let mut work = grades_of(heap, <Span as Algebra>::one(), 2592)?;
-    expect_judge(&mut session, grades.as_slice(), work.as_mut_slice(), 0, 0)?;
-    expect_grades(work.as_slice(), 0, 2592, <Span as Algebra>::zero())?;
-    expect_short(heap, &mut session, grades.as_slice())
+    expect_judge(
+        &mut session,
+        grades.as_slice(),
+        work.as_mut_slice(),
+        0,
+        0,
+        "run 5",
+    )?;
+    expect_grades(work.as_slice(), 0, 2592, <Span as Algebra>::zero(), "run 5")?;
+    expect_short(heap, &mut session, grades.as_slice(), "run 5")
 }
 
 // Checks a load and two judgings, of which the second is one too many.
@@ -299,8 +314,8 @@ fn expect_once(
 ) -> Result<(), Fail> {
     let mut grades = grades_of(heap, <Span as Algebra>::zero(), GRADES)?;
     expect_load(session, text, grades.as_mut_slice(), 0, 0)?;
-    expect_cleared(heap, session, grades.as_slice(), number, place)?;
-    expect_kept(heap, session, grades.as_slice(), 2593, 11)
+    expect_cleared(heap, session, grades.as_slice(), number, place, text)?;
+    expect_kept(heap, session, grades.as_slice(), 2593, 11, text)
 }
 
 // A rule is judged once per load, and a load that is refused for its list leaves the verdict.
@@ -313,7 +328,14 @@ fn judged_once(rt: HostRuntime) -> Result<(), Fail> {
     let mut short = grades_of(heap, <Span as Algebra>::zero(), 255)?;
     expect_load(&mut session, "run 5", short.as_mut_slice(), 1, 0)?;
     let grades = grades_of(heap, <Span as Algebra>::zero(), GRADES)?;
-    expect_kept(heap, &mut session, grades.as_slice(), 2593, 11)?;
+    expect_kept(
+        heap,
+        &mut session,
+        grades.as_slice(),
+        2593,
+        11,
+        "run call 5 6",
+    )?;
     expect_once(heap, &mut session, "run 5", 0, 0)
 }
 
@@ -332,7 +354,7 @@ fn expect_changed(
         Some(grade) => *grade = <Span as Algebra>::one(),
         None => return Err(Fail::new("no such grade")),
     }
-    expect_cleared(heap, &mut session, grades.as_slice(), number, place).note(text)
+    expect_cleared(heap, &mut session, grades.as_slice(), number, place, text)
 }
 
 // The grades are those found in the grade list, whoever wrote them.

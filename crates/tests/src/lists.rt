@@ -13,9 +13,9 @@ fn span(lower: u16, upper: Option<u16>) -> Result<Span, Fail> {
 }
 
 // Checks that the places from `from` to the 256th are zero, and that the 257th is as it was.
-fn expect_rest(grades: &[Span], from: usize, beyond: Span) -> Result<(), Fail> {
-    expect_grades(grades, from, 256, <Span as Algebra>::zero())?;
-    expect_grade(grades, 256, beyond)
+fn expect_rest(grades: &[Span], from: usize, beyond: Span, rule: &str) -> Result<(), Fail> {
+    expect_grades(grades, from, 256, <Span as Algebra>::zero(), rule)?;
+    expect_grade(grades, 256, beyond, rule)
 }
 
 #[test]
@@ -23,14 +23,16 @@ fn grades_of_a_rule(rt: HostRuntime) -> Result<(), Fail> {
     let old = span(9, Some(9))?;
     let mut session = Session::new(rt.alloc())?;
     let mut grades = grades_of(rt.alloc(), old, 257)?;
-    let text = b"input a {1..2} input b run call fn c {0..*} to {3..3} num num 5 6";
-    let read = session.load::<Span>(text, grades.as_mut_slice()).is_ok();
+    let text = "input a {1..2} input b run call fn c {0..*} to {3..3} num num 5 6";
+    let read = session
+        .load::<Span>(text.as_bytes(), grades.as_mut_slice())
+        .is_ok();
     assert!(rt; read);
-    expect_grade(grades.as_slice(), 0, span(1, Some(2))?)?;
-    expect_grade(grades.as_slice(), 1, span(1, Some(1))?)?;
-    expect_grade(grades.as_slice(), 2, span(0, None)?)?;
-    expect_grade(grades.as_slice(), 3, span(3, Some(3))?)?;
-    expect_rest(grades.as_slice(), 4, old)
+    expect_grade(grades.as_slice(), 0, span(1, Some(2))?, text)?;
+    expect_grade(grades.as_slice(), 1, span(1, Some(1))?, text)?;
+    expect_grade(grades.as_slice(), 2, span(0, None)?, text)?;
+    expect_grade(grades.as_slice(), 3, span(3, Some(3))?, text)?;
+    expect_rest(grades.as_slice(), 4, old, text)
 }
 
 #[test]
@@ -46,7 +48,7 @@ fn zeros_after_a_refusal(rt: HostRuntime) -> Result<(), Fail> {
         .load::<Span>(b"input a {1..2} run b", grades.as_mut_slice())
         .is_ok();
     assert!(rt; !read && session.input(0).is_none());
-    expect_rest(grades.as_slice(), 0, old)
+    expect_rest(grades.as_slice(), 0, old, "input a {1..2} run b")
 }
 
 #[test]
@@ -61,8 +63,8 @@ fn nothing_changed_by_a_short_list(rt: HostRuntime) -> Result<(), Fail> {
     let mut short = grades_of(rt.alloc(), old, 255)?;
     let read = session.load::<Span>(b"run 5", short.as_mut_slice()).is_ok();
     assert!(rt; !read);
-    expect_grade(short.as_slice(), 0, old)?;
-    expect_grade(short.as_slice(), 254, old)?;
+    expect_grade(short.as_slice(), 0, old, "run 5")?;
+    expect_grade(short.as_slice(), 254, old, "run 5")?;
     match session.input(0) {
         Some(binder) => assert!(rt; binder.place == 6 && binder.len == 3 && binder.grade == 0),
         None => return Err(Fail::new("the rule is gone")),
