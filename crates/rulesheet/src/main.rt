@@ -12,7 +12,7 @@ use kind::{Kind, kind_of};
 use levels::Level;
 use lines::first_line;
 use listing::listed;
-use pairings::Pair;
+use pairs::Pair;
 use readings::readings_of;
 use spans::Span;
 use std::io::{Read, Write};

@@ -3,7 +3,7 @@ use crate::helpers::{add_times, answer, expect, expect_grade, expect_grades, gra
 use grades::{Algebra, Written};
 use judge::rule::{GRADES, WORK};
 use levels::Level;
-use pairings::Pair;
+use pairs::Pair;
 use session::Session;
 use spans::Span;
 use std::alloc::{AllocError, Global};

@@ -2,7 +2,7 @@
 use crate::helpers::outcome;
 use grades::{Algebra, Written};
 use levels::Level;
-use pairings::Pair;
+use pairs::Pair;
 use spans::Span;
 use std::alloc::{AllocError, Global};
 use std::test::Fail;

@@ -2,9 +2,9 @@
 #![tactic(auto)]
 
 ghost use Rattle.std.specs.Prelude.{◌≡◌};
-ghost use Rattle.pairings.specs.Pairs.{paired, pair_with, pair_covers, pair_taking, pair_reading, pair_writing};
-ghost use Rattle.pairings.specs.PairLaws.{pair_laws};
-ghost use Rattle.pairings.specs.PairWords.{pair_text};
+ghost use Rattle.pairs.specs.Pairs.{paired, pair_with, pair_covers, pair_taking, pair_reading, pair_writing};
+ghost use Rattle.pairs.specs.PairLaws.{pair_laws};
+ghost use Rattle.pairs.specs.PairWords.{pair_text};
 
 use grades::{Algebra, Written};
 use text::put_bytes;

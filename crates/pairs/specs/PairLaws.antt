@@ -2,9 +2,9 @@
 use Rattle.std.specs.Prelude.{◌≡◌, Bool, ◌&&◌, Some, None, Option, refl}
 use Rattle.std.proofs.Common.{◌∙◌, ap}
 use Rattle.std.proofs.lemmas.Bool.{and_from, and_parts, and_right}
-use Rattle.pairings.specs.declared.Pair.{Pair}
+use Rattle.pairs.specs.declared.Pair.{Pair}
 use Rattle.grades.specs.Laws.{Laws, left_covers}
-use Rattle.pairings.specs.Pairs.{paired, pair_with, pair_covers, both_left, pair_taking}
+use Rattle.pairs.specs.Pairs.{paired, pair_with, pair_covers, both_left, pair_taking}
 
 pub same_pair : {A B : Type 0} {a c : A} {b d : B} → a ≡ c → b ≡ d → paired a b ≡ paired c d
 same_pair e f = λ i. record { first = e i; second = f i }

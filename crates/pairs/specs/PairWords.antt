@@ -5,8 +5,8 @@ use Rattle.std.proofs.ByRecursion.{All-append}
 use Rattle.std.proofs.lemmas.List.{append_assoc, take-append-drop, take_at, drop_at, drop-drop, drop_more, take_rest, get_or_at, length-append, length-take-le}
 use Rattle.std.proofs.lemmas.Bool.{and_from, and_parts, cases_Bool, cond-true, cond-false, eq-eqb, eqb-true, lt-ltb, ltb-true, le-leb, leb-true}
 use Rattle.text.proofs.Puts.{none_some}
-use Rattle.pairings.specs.declared.Pair.{Pair}
-use Rattle.pairings.specs.Pairs.{paired, pair_writing, with_second, from_first, pair_reading}
+use Rattle.pairs.specs.declared.Pair.{Pair}
+use Rattle.pairs.specs.Pairs.{paired, pair_writing, with_second, from_first, pair_reading}
 use Rattle.grades.specs.Texts.{Text, Stops, bar}
 use Rattle.grades.proofs.Readings.{same_answer, no_brace_from}
 

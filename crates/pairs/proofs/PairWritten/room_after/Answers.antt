@@ -1,6 +1,6 @@
 use Rattle.std.proofs.Common.{◌++◌, codes, ◌∙◌}
 use Rattle.text.proofs.Puts.{room_thrice, room_first_none, room_second_none}
-use Rattle.pairings.proofs.PairWritten.room_after.Goals as goal
+use Rattle.pairs.proofs.PairWritten.room_after.Goals as goal
 
 pub returns-in_err-room : goal.returns-in_err-room
 returns-in_err-room g c =

@@ -1,8 +1,8 @@
 use Rattle.std.proofs.Common.{◌++◌, codes, ◌∙◌, arith, rules}
 use Rattle.std.proofs.lemmas.List.{length-append}
 use Rattle.text.proofs.Puts.{put_none, put_second_none, put_thrice, room_at}
-use Rattle.pairings.specs.Pairs.{pair_writing}
-use Rattle.pairings.proofs.PairWritten.write.Goals as goal
+use Rattle.pairs.specs.Pairs.{pair_writing}
+use Rattle.pairs.proofs.PairWritten.write.Goals as goal
 
 pub returns-in_err-at : goal.returns-in_err-at
 returns-in_err-at g c =

@@ -1,6 +1,6 @@
 -- Pairings of two algebras, part by part, and their texts. Assumes nothing.
 use Rattle.std.specs.Prelude.{ℕ, ◌+◌, Bool, cond, ◌&&◌, List, ◌++◌, length, drop, Some, None, codes, Option, ◌==◌, nat_le, nat_lt, slice_index}
-use Rattle.pairings.specs.declared.Pair.{Pair}
+use Rattle.pairs.specs.declared.Pair.{Pair}
 use Rattle.grades.specs.Texts.{bar}
 
 abbrev pub paired : {A B : Type 0} → A → B → Pair A B

@@ -1,7 +1,7 @@
 use Rattle.std.proofs.Common.{Some, None, sym, ◌∙◌, rules}
 use Rattle.std.proofs.lemmas.Bool.{cond-true, cond-false, le-leb, lt-leb}
-use Rattle.pairings.specs.PairWords.{read_second}
-use Rattle.pairings.proofs.PairWritten.read.Goals as goal
+use Rattle.pairs.specs.PairWords.{read_second}
+use Rattle.pairs.proofs.PairWritten.read.Goals as goal
 
 pub returns-in_err-second : goal.returns-in_err-second
 returns-in_err-second g c =
