@@ -19,8 +19,8 @@ pub record Laws {G : Type 0} (zero one : G) (sum product join : G → G → G) (
   pub zero_product : (p : G) → product zero p ≡ zero
   pub product_zero : (p : G) → product p zero ≡ zero
   -- the product distributes over the sum on both sides
-  pub product-sum : (p q r : G) → product p (sum q r) ≡ sum (product p q) (product p r)
-  pub sum-product : (p q r : G) → product (sum p q) r ≡ sum (product p r) (product q r)
+  pub product_sum : (p q r : G) → product p (sum q r) ≡ sum (product p q) (product p r)
+  pub sum_product : (p q r : G) → product (sum p q) r ≡ sum (product p r) (product q r)
   -- covering is an order, which sum and product preserve in each operand
   pub covers_refl : (p : G) → covers p p ≡ true
   pub covers_trans : (r q p : G) → covers r q ≡ true → covers q p ≡ true → covers r p ≡ true

@@ -1,2 +1,14 @@
 pub mod Laws
 pub mod Texts
+pub mod Levels
+pub mod Spans
+pub mod SpanTexts
+pub mod Pairs
+pub mod Words
+pub mod Readings
+pub mod PairLaws
+pub mod PairWords
+pub mod SpanLaws
+pub mod Rounding
+pub mod Ends
+pub mod SpanWords

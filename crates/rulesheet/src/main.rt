@@ -7,14 +7,12 @@ mod lines;
 mod listing;
 mod readings;
 
+use grades::{Level, Pair, Span};
 use anyhow::{Result, bail};
 use kind::{Kind, kind_of};
-use levels::Level;
 use lines::first_line;
 use listing::listed;
-use pairs::Pair;
 use readings::readings_of;
-use spans::Span;
 use std::io::{Read, Write};
 use std::process::ExitCode;
 

@@ -1,7 +1,6 @@
 // What the tests share: loading a text, looking at lists of grades, and building long texts.
-use grades::{Algebra, Written};
+use grades::{Algebra, Span, Written};
 use session::Session;
-use spans::Span;
 use std::alloc::{AllocError, Global};
 use std::test::Fail;
 use tokens::Fault;

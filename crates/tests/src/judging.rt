@@ -1,11 +1,8 @@
 // Rules that are judged: accepted with their usages, or refused at a place, and what each judging leaves.
 use crate::helpers::{add_times, answer, expect, expect_grade, expect_grades, grades_of, tree};
-use grades::{Algebra, Written};
+use grades::{Algebra, Level, Pair, Span, Written};
 use judge::rule::{GRADES, WORK};
-use levels::Level;
-use pairs::Pair;
 use session::Session;
-use spans::Span;
 use std::alloc::{AllocError, Global};
 use std::test::Fail;
 

@@ -1,8 +1,7 @@
 // The grade list and the session after loads.
 use crate::helpers::{expect_grade, expect_grades, grades_of};
-use grades::Algebra;
+use grades::{Algebra, Span};
 use session::Session;
-use spans::Span;
 use std::test::Fail;
 
 fn span(lower: u16, upper: Option<u16>) -> Result<Span, Fail> {

@@ -1,9 +1,6 @@
 // Grades read and written again, one by one and in pairings of pairings.
 use crate::helpers::outcome;
-use grades::{Algebra, Written};
-use levels::Level;
-use pairs::Pair;
-use spans::Span;
+use grades::{Algebra, Level, Pair, Span, Written};
 use std::alloc::{AllocError, Global};
 use std::test::Fail;
 use tokens::same_word;

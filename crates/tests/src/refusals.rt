@@ -1,8 +1,7 @@
 // Texts that are refused, each at its exact place, and texts next to them that are read.
 use crate::helpers::{expect, grades_of};
-use grades::Algebra;
+use grades::{Algebra, Span};
 use session::Session;
-use spans::Span;
 use std::test::Fail;
 
 #[test]

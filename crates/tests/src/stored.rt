@@ -1,8 +1,7 @@
 // What is stored of a rule: binders, and terms behind their parts.
 use crate::helpers::grades_of;
-use grades::Algebra;
+use grades::{Algebra, Span};
 use language::{Program, Term, read_program};
-use spans::Span;
 use std::alloc::Global;
 use std::process::Abort;
 use std::test::Fail;

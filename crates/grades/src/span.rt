@@ -1,0 +1,21 @@
+// Spans: how often a name is read, from a lower to an upper end.
+ghost use Rattle.std.specs.Prelude.{◌≤◌};
+
+pub mod algebra;
+pub mod written;
+
+// The largest number that an end can be.
+const MOST: u16 = 9999;
+
+// As an upper end: no limit.
+const NO_LIMIT: u16 = 10_000;
+
+// From `lower` to `upper` reads.
+#[derive(Clone, Copy, PartialEq, Eq)]
+pub struct Span {
+    lower: u16,
+    upper: u16,
+    ghost ordered: { lower ≤ upper },
+    ghost low: { lower ≤ 9999 },
+    ghost high: { upper ≤ 10000 },
+}
