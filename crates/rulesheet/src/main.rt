@@ -7,8 +7,8 @@ mod lines;
 mod listing;
 mod readings;
 
-use grades::{Level, Pair, Span};
 use anyhow::{Result, bail};
+use grades::{Level, Pair, Span};
 use kind::{Kind, kind_of};
 use lines::first_line;
 use listing::listed;
