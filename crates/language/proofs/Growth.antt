@@ -43,6 +43,13 @@ binder_there s t x i e at = subst (λ u. i < length u.binders) (sym e) (omega (a
 grade_there : (s t : Tables) (i : ℕ) → t ≡ with_grade s → i ≡ s.grades → i < t.grades
 grade_there s t i e at = subst (λ u. i < u.grades) (sym e) (omega arith)
 
+-- what an entry refers to is still there when it is stored
+pub arrow_fits : {t u v : Tables} {grade from to : ℕ} → grade < t.grades → Grown 0 t u × (from < length u.types) → Grown 0 u v × (to < length v.types) → (grade < v.grades) × (from < length v.types) × (to < length v.types)
+arrow_fits {t} {u} {v} g a b = (omega (arith, a.0, b.0), omega (arith, b.0), b.1)
+
+pub fn_fits : {t u v : Tables} {binder domain body : ℕ} → binder < length t.binders → Grown 0 t u × (domain < length u.types) → Grown 0 u v × (body < length v.nodes) → (binder < length v.binders) × (domain < length v.types) × (body < length v.nodes)
+fn_fits {t} {u} {v} n a b = (omega (arith, a.0, b.0), omega (arith, b.0), b.1)
+
 -- a type that is stored where one word is owed
 pub type_grown : (s t u : Tables) (x : SimpleType) {i : ℕ} → Grown 1 s t → u ≡ with_type t x → i ≡ length t.types → Grown 0 s u × (i < length u.types)
 type_grown s t u x {i} h e at = (stored_type u x e h, type_there t u x i e at)
@@ -53,15 +60,15 @@ module _ (s p q r v : Tables) {from to : ℕ} (word : p ≡ with_word s) (graded
   arrow_owed = on (grown_word s p word) (on (grown_grade p q graded) (on domain.0 range.0))
 
   -- what it refers to is still there when it is stored
-  pub arrow_fits : {grade : ℕ} → grade ≡ p.grades → (grade < v.grades) × (from < length v.types) × (to < length v.types)
-  arrow_fits {grade} at = let g : grade < q.grades = grade_there p q grade graded at in (omega (arith, domain.0, range.0), omega (arith, range.0), range.1)
+  pub arrow_there : {grade : ℕ} → grade ≡ p.grades → (grade < v.grades) × (from < length v.types) × (to < length v.types)
+  arrow_there {grade} at = arrow_fits (grade_there p q grade graded at) domain range
 
 -- a function: its binder's grade, its binder, its type and its body are stored
 pub fn_grown : (s p q r v : Tables) (b : Binder) {i domain body : ℕ} → p ≡ with_grade s → i ≡ length p.binders → q ≡ with_binder p b → Grown 0 q r × (domain < length r.types) → Grown 0 r v × (body < length v.nodes) →
     Grown 0 s v × ((i < length v.binders) × (domain < length v.types) × (body < length v.nodes))
 fn_grown s p q r v b {i} graded at bound domain body =
     let there : i < length q.binders = binder_there p q b i bound at in
-    (on (grown_grade s p graded) (on (grown_binder p q b bound) (on domain.0 body.0)), (omega (arith, domain.0, body.0), omega (arith, body.0), body.1))
+    (on (grown_grade s p graded) (on (grown_binder p q b bound) (on domain.0 body.0)), fn_fits there domain body)
 
 -- a term that is stored behind its parts
 pub term_grown : (s p t u : Tables) (x : Node) {i : ℕ} → p ≡ with_word s → Grown 0 p t → u ≡ with_node t x → i ≡ length t.nodes → Grown 0 s u × (i < length u.nodes)

@@ -1,4 +1,4 @@
--- What the program prints of a rule's text. Assumes nothing.
+-- The line of the verdict on a rule's text. Assumes nothing.
 use Rattle.std.specs.Prelude.{ℕ, List, [], ◌∷◌, ◌++◌, replicate, Ok, Err, codes, decimal, Option, Result}
 use Rattle.tokens.specs.declared.refusal.Fault.{Fault}
 use Rattle.tokens.specs.Refusals.{number_of}
@@ -25,6 +25,6 @@ module _ {G : Type 0} (a : Ghosts G) where
   abbrev pub answer : (List ℕ → Option (G × ℕ)) → List ℕ → Model → List G → List G → Result (Unit {0}) Fault
   answer reading text m list work = judged_after work (loaded reading a.unit a.nil text m list)
 
-  -- what is printed: the answer of a session without a rule, with lists of zeros
+  -- the line of a text: the answer of a session without a rule, with lists of zeros
   abbrev pub listing : (List ℕ → Option (G × ℕ)) → List ℕ → List ℕ
   listing reading text = verdict_line (answer reading text no_rule (replicate 256 a.nil) (replicate 2592 a.nil))

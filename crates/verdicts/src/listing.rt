@@ -1,4 +1,4 @@
-// What the program prints: the verdict on a rule, or the refusal.
+// The line of the verdict on a rule: `accepted`, or the refusal.
 ghost use Rattle.std.specs.Prelude.{◌≡◌, ◌↔◌, replicate, IfOk};
 ghost use Rattle.session.specs.Sessions.{model_of};
 ghost use Rattle.verdicts.specs.Listings.{refusal_line, verdict_line, answer, listing};
@@ -52,7 +52,7 @@ fn verdict_on<G: Written>(
     session.judge(grades, work)
 }
 
-// What the program prints of a text: the answer of a session without a rule. By its second clause, that is `accepted`
+// The line of the verdict on a text: the answer of a session without a rule. By its second clause, that is `accepted`
 // exactly when the text is a sentence of the grammar within the limits whose rule is acceptable.
 pub fn listed<G: Written>(heap: Global, text: &[u8]) -> Result<Vec<u8>, AllocError>
     ensures prints { IfOk result (λ v. v.items ≡ listing G.Algebra G.reading text.now) }

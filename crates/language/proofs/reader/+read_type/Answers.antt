@@ -1,7 +1,7 @@
 use Rattle.language.specs.declared.program.SimpleType.TheVariants.{Num}
 use Rattle.language.specs.Reading.{tables_of, state_of}
 use Rattle.language.proofs.Chains.{failed, nothing_made, num_read, from_failed, to_failed, arrow_read}
-use Rattle.language.proofs.Growth.{grown_word, room, type_grown, arrow_owed, arrow_fits}
+use Rattle.language.proofs.Growth.{grown_word, room, type_grown, arrow_owed, arrow_there}
 use Rattle.language.proofs.reader.+read_type.Goals as goal
 
 pub returns-in-Num : goal.returns-in-Num
@@ -17,7 +17,7 @@ add_type-index-requires-in-To g t c =
     let graded = c.in_ok-grade-in-To.ensures.stores in
     record {
       room = room (arrow_owed (tables_of c.args.program.now) (tables_of c.count_word.new.self) (tables_of c.add_grade.new.program) (tables_of c.read_type.new.program) (tables_of c.read_type-in-To.new.program) c.in_ok-inner.ensures.words graded.1 c.in_ok-from-in-To.ensures.grows c.in_ok-to-in-To.ensures.grows) c.args.program.now.counted;
-      fits = arrow_fits (tables_of c.args.program.now) (tables_of c.count_word.new.self) (tables_of c.add_grade.new.program) (tables_of c.read_type.new.program) (tables_of c.read_type-in-To.new.program) c.in_ok-inner.ensures.words graded.1 c.in_ok-from-in-To.ensures.grows c.in_ok-to-in-To.ensures.grows graded.0;
+      fits = arrow_there (tables_of c.args.program.now) (tables_of c.count_word.new.self) (tables_of c.add_grade.new.program) (tables_of c.read_type.new.program) (tables_of c.read_type-in-To.new.program) c.in_ok-inner.ensures.words graded.1 c.in_ok-from-in-To.ensures.grows c.in_ok-to-in-To.ensures.grows graded.0;
     }
 
 pub returns-in_err-from-in-To : goal.returns-in_err-from-in-To
