@@ -1,8 +1,7 @@
 -- What a reading answers, and texts without `}`.
-use Rattle.std.specs.Prelude.{◌≡◌, ℕ, Bool, true, not, ◌&&◌, List, [], ◌∷◌, length, take, Some, Option, ◌==◌, ◌≢◌, refl}
-use Rattle.std.proofs.Common.{sym, ap}
+use Rattle.std.specs.Prelude.{◌≡◌, ℕ, Bool, true, not, ◌&&◌, List, [], ◌∷◌, Some, Option, ◌==◌, ◌≢◌, refl}
+use Rattle.std.proofs.Common.{ap}
 use Rattle.std.specs.List.{AllByRecursion}
-use Rattle.std.specs.Str.{bytes_eq}
 use Rattle.std.proofs.lemmas.Bool.Decides.{Decides-eqb, Decides-not}
 use Rattle.std.proofs.ByRecursion.{Decides-by_and}
 use Rattle.grades.specs.Texts.{brace}
@@ -11,10 +10,6 @@ use Rattle.grades.specs.Texts.{brace}
 pub same_answer : {G : Type 0} (p q : G) (m n : ℕ) → ◌≡◌ {A = Option (G × ℕ)} (Some (p, m)) (Some (q, n)) → (p ≡ q) × (m ≡ n)
 same_answer {G} p q m n e =
     let pair : ◌≡◌ {A = G × ℕ} (p, m) (q, n) = cc in (ap (λ x. x.0) pair, ap (λ x. x.1) pair)
-
--- what `starts_with` answers
-pub starts_same : (w bs : List ℕ) (r : Bool) → r ≡ bytes_eq w (take (length w) bs) → bytes_eq w (take (length w) bs) ≡ r
-starts_same w bs r e = sym e
 
 -- no byte is `}`, as a test that computes
 abbrev pub unbraced : List ℕ → Bool

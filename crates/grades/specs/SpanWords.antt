@@ -20,7 +20,7 @@ use Rattle.grades.specs.declared.span.Span.{Span}
 use Rattle.grades.specs.Spans.{most, no_limit, spanned}
 use Rattle.grades.specs.Texts.{Text, Stops, brace}
 use Rattle.grades.specs.SpanTexts.{upper_writing, span_writing, with_length, digits_at, number_at, upper_at, dotted, up_to, from_lower, span_reading}
-use Rattle.grades.specs.Readings.{same_answer, starts_same, no_brace_from}
+use Rattle.grades.specs.Readings.{same_answer, no_brace_from}
 use Rattle.grades.specs.Ends.{same_span}
 
 pub digits_fit : (bs : List ℕ) → digits_at bs ≤ length bs
@@ -62,7 +62,7 @@ abbrev pub after_lower : List ℕ → ℕ → List ℕ
 after_lower bs n = take (length bs - n) (drop n bs)
 
 dotted_after : (bs : List ℕ) (n : ℕ) (r : Bool) → r ≡ bytes_eq (codes "..") (take 2 (after_lower bs n)) → dotted (drop n bs) ≡ r
-dotted_after bs n r m = ap dotted (sym (take_rest bs n)) ∙ starts_same (codes "..") (after_lower bs n) r m
+dotted_after bs n r m = ap dotted (sym (take_rest bs n)) ∙ sym m
 
 pub read_undotted : (bs : List ℕ) (lower n : ℕ) → Some (lower, n) ≡ number_at bs → false ≡ bytes_eq (codes "..") (take 2 (after_lower bs n)) → None ≡ span_reading bs
 read_undotted bs lower n e m = sym (ap (from_lower bs) (sym e) ∙ cond-false _ _ _ (dotted_after bs n false m))

@@ -24,7 +24,7 @@ pub(crate) fn refused<T>(refusal: Refusal, place: usize) -> Result<T, Fault>
 }
 
 // The type of the term number `node`, where the binders of the context are open, and its usage.
-#[cycle(judge_call_judge_fn_judge_less_judge_number_judge_numbers_judge_term)]
+#[cycle(judging)]
 pub(crate) fn judge_term<G: Algebra>(
     program: &Program,
     grades: &[G],
@@ -78,7 +78,7 @@ pub(crate) fn judge_term<G: Algebra>(
 }
 
 // The usage of the term number `node`, which has to be a number.
-#[cycle(judge_call_judge_fn_judge_less_judge_number_judge_numbers_judge_term)]
+#[cycle(judging)]
 fn judge_number<G: Algebra>(
     program: &Program,
     grades: &[G],
@@ -98,7 +98,7 @@ fn judge_number<G: Algebra>(
 }
 
 // The sum of the usages of two numbers.
-#[cycle(judge_call_judge_fn_judge_less_judge_number_judge_numbers_judge_term)]
+#[cycle(judging)]
 fn judge_numbers<G: Algebra>(
     program: &Program,
     grades: &[G],
@@ -120,7 +120,7 @@ fn judge_numbers<G: Algebra>(
 }
 
 // A function: its body, and then its binder.
-#[cycle(judge_call_judge_fn_judge_less_judge_number_judge_numbers_judge_term)]
+#[cycle(judging)]
 fn judge_fn<G: Algebra>(
     program: &Program,
     grades: &[G],
@@ -154,7 +154,7 @@ fn judge_fn<G: Algebra>(
 }
 
 // A call: the function, which has to be one, and then the argument, which has to have the type of its domain.
-#[cycle(judge_call_judge_fn_judge_less_judge_number_judge_numbers_judge_term)]
+#[cycle(judging)]
 fn judge_call<G: Algebra>(
     program: &Program,
     grades: &[G],
@@ -184,7 +184,7 @@ fn judge_call<G: Algebra>(
 }
 
 // A comparison: two numbers, and then two parts of one type, of which one will be run.
-#[cycle(judge_call_judge_fn_judge_less_judge_number_judge_numbers_judge_term)]
+#[cycle(judging)]
 fn judge_less<G: Algebra>(
     program: &Program,
     grades: &[G],

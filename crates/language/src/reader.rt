@@ -256,7 +256,7 @@ fn read_type<G: Written>(
 }
 
 // The term at `at`, with `depth` levels left, where the names of `scope` are open.
-#[cycle(read_parts_read_term)]
+#[cycle(reading)]
 fn read_term<'a, G: Written>(
     text: &'a [u8],
     at: usize,
@@ -279,7 +279,7 @@ fn read_term<'a, G: Written>(
 }
 
 // What follows the first token of a term: its parts, each with `inner` levels left.
-#[cycle(read_parts_read_term)]
+#[cycle(reading)]
 fn read_parts<'a, G: Written>(
     head: TermHead,
     text: &'a [u8],

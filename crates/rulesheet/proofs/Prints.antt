@@ -1,12 +1,13 @@
 -- The lines that are printed.
-use Rattle.std.proofs.Common.{◌≡◌, ℕ, zero, suc, ◌+◌, ◌<◌, ◌≤◌, true, false, cond, ltb, List, [], ◌∷◌, ◌++◌, length, get_or, take, drop, replicate, Some, None, Ok, Err, codes, Result, sym, refl, ap, ◌∙◌, append_assoc, add-one, arith}
+use Rattle.std.proofs.Common.{◌≡◌, ℕ, ◌+◌, ◌<◌, ◌≤◌, true, false, cond, ltb, List, [], ◌∷◌, ◌++◌, length, get_or, take, drop, Some, None, Ok, Err, codes, Result, sym, refl, ap, ◌∙◌, append_assoc, add-one, arith}
 use Rattle.std.proofs.lemmas.Bool.{ltb-true}
 use Rattle.std.proofs.lemmas.List.{take_at}
 use Rattle.language.specs.declared.program.Binder.{Binder}
 use Rattle.tokens.specs.declared.refusal.Fault.{Fault}
 use Rattle.language.specs.Tables.{no_binder}
 use Rattle.session.specs.Sessions.{Model, no_rule, input_at}
-use Rattle.rulesheet.specs.Listings.{refusal_line, input_line, input_lines, read_lines, listing}
+use Rattle.verdicts.specs.Listings.{refusal_line}
+use Rattle.rulesheet.specs.Listings.{input_line, input_lines, read_lines, listing}
 
 -- an input that is there
 pub input_given : (m : Model) (i : ℕ) (b : Binder) → Some b ≡ input_at m i → (i < m.rule.inputs) × (b ≡ get_or m.rule.binders i no_binder)
@@ -44,15 +45,3 @@ module _ {G : Type 0} (writing : G → List ℕ) (nil : G) (text : List ℕ) whe
   -- what is printed of a load into an empty session with a list of zeros
   pub printed_first : (load : Model → List G → Result (Unit {0}) Fault × Model × List G) (m : Model) (l zeros : List G) → m ≡ no_rule → l ≡ zeros → (v : List ℕ) → v ≡ listing writing nil text (load m l) → v ≡ listing writing nil text (load no_rule zeros)
   printed_first load m l zeros em el v h = h ∙ ap (λ n. listing writing nil text (load n l)) em ∙ ap (λ k. listing writing nil text (load no_rule k)) el
-
--- one zero more
-pub replicate_more : {G : Type 0} (n : ℕ) (z : G) → replicate n z ++ z ∷ [] ≡ replicate (n + 1) z
-replicate_more n z = by n ∙ ap (λ k. replicate k z) (sym (add-one n))
-  where
-    by : (n : ℕ) → replicate n z ++ z ∷ [] ≡ replicate (suc n) z
-    by zero = refl
-    by (suc n) = ap (λ l. z ∷ l) (by n)
-
-pub one_zero_more : {G : Type 0} (n n' : ℕ) (v v' : List G) (x z : G) → x ≡ z → n < 256 → n' ≡ n + 1 → v' ≡ v ++ x ∷ [] → v ≡ replicate n z → (n' ≤ 256) × (v' ≡ replicate n' z)
-one_zero_more n n' v v' x z ex few en ev e =
-    (omega arith, ev ∙ ap (λ y. v ++ y ∷ []) ex ∙ ap (λ l. l ++ z ∷ []) e ∙ replicate_more n z ∙ ap (λ k. replicate k z) (sym en))

@@ -1,14 +1,10 @@
 -- What the program prints of a load. Assumes nothing.
-use Rattle.std.specs.Prelude.{ℕ, zero, suc, List, [], ◌∷◌, ◌++◌, take, drop, Ok, Err, codes, decimal, Result, slice_index_or}
+use Rattle.std.specs.Prelude.{ℕ, zero, suc, List, [], ◌∷◌, ◌++◌, take, drop, Ok, Err, codes, Result, slice_index_or}
 use Rattle.language.specs.declared.program.Binder.{Binder}
 use Rattle.tokens.specs.declared.refusal.Fault.{Fault}
-use Rattle.tokens.specs.Refusals.{number_of}
 use Rattle.language.specs.Tables.{no_binder}
 use Rattle.session.specs.Sessions.{Model}
-
--- `refused N at P`
-abbrev pub refusal_line : Fault → List ℕ
-refusal_line f = codes "refused " ++ (decimal (number_of f.refusal) ++ (codes " at " ++ (decimal f.place ++ 10 ∷ [])))
+use Rattle.verdicts.specs.Listings.{refusal_line}
 
 module _ {G : Type 0} (writing : G → List ℕ) (nil : G) (text : List ℕ) where
   -- a name, which is bytes of the text, a space, and the text of its grade

@@ -1,23 +1,14 @@
 // What the program prints: a refusal, or the inputs of a rule with their grades.
 ghost use Rattle.std.specs.Prelude.{◌≡◌, ◌++◌, take, drop, replicate, IfOk, OnOk, slice_index_or};
 ghost use Rattle.session.specs.Sessions.{loaded, no_rule, model_of};
-ghost use Rattle.rulesheet.specs.Listings.{refusal_line, input_line, read_lines, listing};
+ghost use Rattle.rulesheet.specs.Listings.{input_line, read_lines, listing};
 
 use grades::Written;
 use language::Binder;
 use session::Session;
 use session::load::GRADES;
 use std::alloc::{AllocError, Global};
-use tokens::Fault;
-
-fn refusal_printed(heap: Global, fault: Fault) -> Result<Vec<u8>, AllocError>
-    ensures { IfOk result (λ v. v.items ≡ refusal_line fault) }
-{
-    let number = fault.refusal.number();
-    let place = fault.place;
-    let line = format!(in heap; "refused {number} at {place}\n")?;
-    Vec::from_slice(heap, line.as_bytes())
-}
+use verdicts::{refusal_printed, zeros};
 
 // At most `len` bytes of the text from the place on, as far as the text goes.
 fn part(text: &[u8], place: usize, len: usize) -> &[u8]
@@ -91,17 +82,6 @@ fn inputs_printed<G: Written>(
     Ok(out)
 }
 
-// As many zeros as a rule has grades at most.
-fn zeros<G: Written>(heap: Global) -> Result<Vec<G>, AllocError>
-    ensures { IfOk result (λ v. v.items ≡ replicate 256 G.Algebra.nil) }
-{
-    let mut grades = Vec::new(heap);
-    while grades.len() < GRADES {
-        grades.push(G::zero())?;
-    }
-    Ok(grades)
-}
-
 // Loads the rule that the text is, and prints the refusal or the inputs.
 fn load_printed<G: Written>(
     heap: Global,
@@ -122,6 +102,6 @@ pub fn listed<G: Written>(heap: Global, text: &[u8]) -> Result<Vec<u8>, AllocErr
     ensures { IfOk result (λ v. v.items ≡ listing G.Written.writing G.Algebra.nil text.now (loaded G.Written.reading G.Algebra.unit G.Algebra.nil text.now no_rule (replicate 256 G.Algebra.nil))) }
 {
     let mut session = Session::new(heap)?;
-    let mut grades = zeros::<G>(heap)?;
+    let mut grades = zeros::<G>(heap, GRADES)?;
     load_printed(heap, text, &mut session, grades.as_mut_slice())
 }

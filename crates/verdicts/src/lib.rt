@@ -3,4 +3,4 @@
 
 pub mod listing;
 
-pub use listing::listed;
+pub use listing::{listed, refusal_printed, zeros};

@@ -10,7 +10,8 @@ use session::Session;
 use std::alloc::{AllocError, Global};
 use tokens::Fault;
 
-fn refusal_printed(heap: Global, fault: Fault) -> Result<Vec<u8>, AllocError>
+// The line of a refusal.
+pub fn refusal_printed(heap: Global, fault: Fault) -> Result<Vec<u8>, AllocError>
     ensures { IfOk result (λ v. v.items ≡ refusal_line fault) }
 {
     let number = fault.refusal.number();
@@ -29,7 +30,7 @@ fn verdict_printed(heap: Global, verdict: Result<(), Fault>) -> Result<Vec<u8>, 
 }
 
 // So many zeros.
-fn zeros<G: Written>(heap: Global, count: usize) -> Result<Vec<G>, AllocError>
+pub fn zeros<G: Written>(heap: Global, count: usize) -> Result<Vec<G>, AllocError>
     ensures { IfOk result (λ v. v.items ≡ replicate count G.Algebra.nil) }
 {
     let mut grades = Vec::new(heap);

@@ -1,7 +1,8 @@
 use Rattle.std.proofs.Common.{◌≡◌, vec_items}
 use Rattle.std.proofs.lemmas.Result.{IfOk-weaker}
 use Rattle.session.specs.Sessions.{model_of, loaded}
-use Rattle.rulesheet.specs.Listings.{refusal_line, read_lines, listing}
+use Rattle.verdicts.specs.Listings.{refusal_line}
+use Rattle.rulesheet.specs.Listings.{read_lines, listing}
 use Rattle.rulesheet.proofs.Prints.{printed_read, printed_refused}
 use Rattle.rulesheet.proofs.listing.load_printed.Goals as goal
 

@@ -16,7 +16,7 @@ use Rattle.judge.proofs.Parts.{grown_on, grown_longer, sound_wider, types_wider,
 use Rattle.judge.proofs.Nodes.{node_older, node_term, node_place, ready_as, judges_as}
 use Rattle.judge.proofs.Chains.{broke, second_fails, no_number}
 use Rattle.judge.proofs.Exits.{refused_judges, refused_uses, number_later, name_exit, literal_exit, number_exit, numbers_exit, not_function_here, arrow_there, argument_fails_here, argument_differs_here, call_exit, body_fails_here, binder_fails_here, fn_exit, branch_fails_here, other_fails_here, branches_differ_here, less_exit}
-use Rattle.judge.proofs.terms.+judge_call_judge_fn_judge_less_judge_number_judge_numbers_judge_term.Goals as goal
+use Rattle.judge.proofs.terms.+judging.Goals as goal
 
 pub judge_call-returns-in_default : goal.judge_call-returns-in_default
 judge_call-returns-in_default g t c =

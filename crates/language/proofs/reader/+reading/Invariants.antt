@@ -1,5 +1,5 @@
 use Rattle.std.proofs.Common.{◌+◌, ◌*◌}
-use Rattle.language.proofs.reader.+read_parts_read_term.Given as goal
+use Rattle.language.proofs.reader.+reading.Given as goal
 
 abbrev pub decreases-read_parts : goal.decreases-read_parts
 decreases-read_parts g l = 2 * l.inner + 1

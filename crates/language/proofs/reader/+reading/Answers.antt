@@ -2,7 +2,7 @@ use Rattle.language.specs.Scopes.{open_names}
 use Rattle.language.specs.Reading.{tables_of, state_of}
 use Rattle.language.proofs.Chains.{failed, nothing_made, domain_failed, body_failed, fn_read, term_failed, term_read}
 use Rattle.language.proofs.Growth.{fn_grown, term_grown}
-use Rattle.language.proofs.reader.+read_parts_read_term.Goals as goal
+use Rattle.language.proofs.reader.+reading.Goals as goal
 
 pub read_parts-returns-in_err-domain-in-Fn : goal.read_parts-returns-in_err-domain-in-Fn
 read_parts-returns-in_err-domain-in-Fn g t c =

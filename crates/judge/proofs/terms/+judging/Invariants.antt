@@ -1,5 +1,5 @@
 use Rattle.std.proofs.Common.{◌+◌, ◌*◌, max}
-use Rattle.judge.proofs.terms.+judge_call_judge_fn_judge_less_judge_number_judge_numbers_judge_term.Given as goal
+use Rattle.judge.proofs.terms.+judging.Given as goal
 
 -- parts are older than their term, and what is called for the same term stands lower
 abbrev pub decreases-judge_term : goal.decreases-judge_term
