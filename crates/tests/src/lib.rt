@@ -12,6 +12,8 @@ mod lists;
 #[cfg(test)]
 mod pairings;
 #[cfg(test)]
+mod printed;
+#[cfg(test)]
 mod refusals;
 #[cfg(test)]
 mod stored;
