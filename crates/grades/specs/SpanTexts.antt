@@ -1,9 +1,10 @@
 -- The text of a span, as `2..5` or `0..*`. Assumes nothing.
 use Rattle.std.specs.Prelude.{ℕ, ◌+◌, Bool, cond, List, ◌++◌, take, drop, Some, None, codes, decimal, Option, ◌==◌, nat_le, slice_index}
+use Rattle.std.specs.List.{prefix_len}
 use Rattle.std.specs.Str.{bytes_eq}
 use Rattle.text.specs.declared.scan.Class.TheVariants.{Digit}
 use Rattle.text.specs.Decimals.{decimal_upto}
-use Rattle.text.specs.Scan.{in_class, front}
+use Rattle.text.specs.Scan.{in_class}
 use Rattle.grades.specs.declared.span.Span.{Span}
 use Rattle.grades.specs.Spans.{most, no_limit, spanned}
 
@@ -21,7 +22,7 @@ with_length (Some v) n = Some (v, n)
 
 -- how many digits stand at the front
 abbrev pub digits_at : List ℕ → ℕ
-digits_at bs = front (in_class Digit) bs
+digits_at bs = prefix_len (in_class Digit) bs
 
 -- the number that the digits at the front write, up to 9,999, with their count
 abbrev pub number_at : List ℕ → Option (ℕ × ℕ)

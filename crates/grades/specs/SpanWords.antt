@@ -8,6 +8,7 @@ use Rattle.text.specs.declared.scan.Class.TheVariants.{Digit}
 use Rattle.text.specs.Decimals.{decimal_upto}
 use Rattle.text.specs.Scan.{in_class}
 use Rattle.std.proofs.lemmas.Slice.Eq.{bytes_eq-Decides}
+use Rattle.std.proofs.lemmas.List.Sums.{prefix_len-le-length}
 use Rattle.std.proofs.lemmas.List.{take_rest, take_at, drop_at, length-drop, length-take, length-append, append_assoc, get_or_append_left}
 use Rattle.std.proofs.lemmas.Bool.{cases_Bool, cases_eq, cases_lt, cond-true, cond-false, cond_both, and_parts, eq-eqb, ne_eqb, le-leb, lt-leb, leb-true}
 use Rattle.std.proofs.lemmas.Fmt.{decimal_nonempty, decimal_is_IsNumeral}
@@ -15,7 +16,7 @@ use Rattle.std.proofs.ByRecursion.{All-append}
 use Rattle.std.proofs.lemmas.Str.Parse.{digit_at}
 use Rattle.text.proofs.Numbers.{decimal_digits, upto_decimal, decimal_from_upto}
 use Rattle.text.proofs.Puts.{none_some}
-use Rattle.text.proofs.Runs.{Halts, front_fits, front_exact, digits_pass}
+use Rattle.text.proofs.Runs.{Halts, front_exact, digits_pass}
 use Rattle.grades.specs.declared.span.Span.{Span}
 use Rattle.grades.specs.Spans.{most, no_limit, spanned}
 use Rattle.grades.specs.Texts.{Text, Stops, brace}
@@ -24,7 +25,12 @@ use Rattle.grades.specs.Readings.{same_answer, no_brace_from}
 use Rattle.grades.specs.Ends.{same_span}
 
 pub digits_fit : (bs : List ℕ) → digits_at bs ≤ length bs
-digits_fit bs = front_fits (in_class Digit) bs
+digits_fit bs = prefix_len-le-length (in_class Digit) bs
+
+-- a number at the front, by the count of its digits
+pub number_read : (bs : List ℕ) (len limit : ℕ) (o : Option ℕ) → len ≡ digits_at bs → limit ≡ most → o ≡ decimal_upto (take len bs) limit → with_length o len ≡ number_at bs
+number_read bs len limit o e f g =
+    ap (with_length o) e ∙ ap (λ x. with_length x (digits_at bs)) (g ∙ ap (λ n. decimal_upto (take n bs) limit) e ∙ ap (decimal_upto (take (digits_at bs) bs)) f)
 
 -- what a number that was read says of the bytes
 pub number_at_some : (bs : List ℕ) (v n : ℕ) → number_at bs ≡ Some (v, n) → (n ≤ length bs) × (v ≤ most) × (take n bs ≡ decimal v)
@@ -57,7 +63,7 @@ dots_from bs n d = (bytes_eq-Decides (codes "..") (take 2 (drop n bs))).0 d
 read_dotted : (bs : List ℕ) (lower n : ℕ) (o : Option (ℕ × ℕ)) → Some (lower, n) ≡ number_at bs → dotted (drop n bs) ≡ true → o ≡ upper_at (drop 2 (drop n bs)) → span_reading bs ≡ up_to lower n o
 read_dotted bs lower n o e d f = ap (from_lower bs) (sym e) ∙ cond-true _ _ _ d ∙ ap (up_to lower n) (sym f)
 
--- the bytes after the lower end, as `read` takes them
+-- the bytes after the lower end, cut by their number
 abbrev pub after_lower : List ℕ → ℕ → List ℕ
 after_lower bs n = take (length bs - n) (drop n bs)
 

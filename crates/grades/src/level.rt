@@ -1,6 +1,6 @@
 // The algebra of levels: who may see a reading.
 ghost use Rattle.std.specs.Prelude.{◌≡◌};
-ghost use Rattle.grades.specs.Levels.{lower, higher, level_covers, level_taking, level_reading, level_writing};
+ghost use Rattle.grades.specs.Levels.{lower, higher, level_covers, level_taking, begins, level_reading, level_writing};
 ghost use Rattle.grades.specs.declared.level.Level.TheVariants.{Public, Crew, Secret};
 ghost use Rattle.std.proofs.Common.{rules};
 ghost use Rattle.grades.specs.Words.{level_text};
@@ -8,8 +8,11 @@ ghost use Rattle.grades.specs.Words.{level_text};
 use crate::algebra::{Algebra, Written};
 use text::put_bytes;
 
+// All levels, in their order.
+const LEVELS: [Level; 3] = [Level::Public, Level::Crew, Level::Secret];
+
 // `Public` is one, `Secret` is zero, and they rise in this order.
-#[derive(Clone, Copy, PartialEq, Eq)]
+#[derive(Clone, Copy, Debug, PartialEq, Eq, PartialOrd, Ord)]
 pub enum Level {
     Public,
     Crew,
@@ -26,6 +29,13 @@ impl Level {
             Level::Crew => b"crew",
             Level::Secret => b"secret",
         }
+    }
+
+    // Whether the bytes begin with the text of the level.
+    fn begins(self, bytes: &[u8]) -> bool
+        ensures { result ≡ begins self bytes.now }
+    {
+        bytes.starts_with(self.text())
     }
 }
 
@@ -55,23 +65,15 @@ impl Algebra for Level {
     }
 
     fn sum(self, other: Level) -> Level {
-        match (self, other) {
-            (Level::Public, _) | (_, Level::Public) => Level::Public,
-            (Level::Crew, _) | (_, Level::Crew) => Level::Crew,
-            (Level::Secret, Level::Secret) => Level::Secret,
-        }
+        self.min(other)
     }
 
     fn product(self, other: Level) -> Level {
-        match (self, other) {
-            (Level::Secret, _) | (_, Level::Secret) => Level::Secret,
-            (Level::Crew, _) | (_, Level::Crew) => Level::Crew,
-            (Level::Public, Level::Public) => Level::Public,
-        }
+        self.max(other)
     }
 
     fn join(self, other: Level) -> Level {
-        self.sum(other)
+        self.min(other)
     }
 
     fn same(self, other: Level) -> bool {
@@ -79,18 +81,11 @@ impl Algebra for Level {
     }
 
     fn covers(self, other: Level) -> bool {
-        match (self, other) {
-            (Level::Public, _) | (_, Level::Secret) => true,
-            (Level::Crew, Level::Crew) => true,
-            _ => false,
-        }
+        self <= other
     }
 
     fn take(self) -> Option<Level> {
-        match self {
-            Level::Public => Some(Level::Public),
-            Level::Crew | Level::Secret => None,
-        }
+        (self == Level::Public).then_some(self)
     }
 }
 
@@ -102,15 +97,8 @@ impl Written for Level {
     ghost text = { level_text };
 
     fn read(bytes: &[u8]) -> Option<(Level, usize)> {
-        if bytes.starts_with(b"public") {
-            Some((Level::Public, 6))
-        } else if bytes.starts_with(b"crew") {
-            Some((Level::Crew, 4))
-        } else if bytes.starts_with(b"secret") {
-            Some((Level::Secret, 6))
-        } else {
-            None
-        }
+        let level = LEVELS.iter().find(|level| level.begins(bytes))?;
+        Some((*level, level.text().len()))
     }
 
     fn room_after(self, room: usize) -> Option<usize> {

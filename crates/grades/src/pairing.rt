@@ -8,10 +8,30 @@ use crate::algebra::{Algebra, Written};
 use text::put_bytes;
 
 // A grade of one algebra with a grade of another.
-#[derive(Clone, Copy)]
+#[derive(Clone, Copy, Debug, PartialEq, Eq)]
 pub struct Pair<A, B> {
     pub first: A,
     pub second: B,
+}
+
+impl<A, B> Pair<A, B> {
+    // The pair of the first parts under one operation, and of the second parts under another.
+    fn combined<F: FnOnce(A, A) -> A, G: FnOnce(B, B) -> B>(
+        self,
+        other: Pair<A, B>,
+        f: F,
+        g: G,
+    ) -> Pair<A, B>
+        requires first { F.pre f self.first other.first }
+        requires second { G.pre g self.second other.second }
+        ensures first { F.post f self.first other.first result.first }
+        ensures second { G.post g self.second other.second result.second }
+    {
+        Pair {
+            first: f(self.first, other.first),
+            second: g(self.second, other.second),
+        }
+    }
 }
 
 impl<A: Algebra, B: Algebra> Algebra for Pair<A, B> {
@@ -46,24 +66,15 @@ impl<A: Algebra, B: Algebra> Algebra for Pair<A, B> {
     }
 
     fn sum(self, other: Pair<A, B>) -> Pair<A, B> {
-        Pair {
-            first: self.first.sum(other.first),
-            second: self.second.sum(other.second),
-        }
+        self.combined(other, A::sum, B::sum)
     }
 
     fn product(self, other: Pair<A, B>) -> Pair<A, B> {
-        Pair {
-            first: self.first.product(other.first),
-            second: self.second.product(other.second),
-        }
+        self.combined(other, A::product, B::product)
     }
 
     fn join(self, other: Pair<A, B>) -> Pair<A, B> {
-        Pair {
-            first: self.first.join(other.first),
-            second: self.second.join(other.second),
-        }
+        self.combined(other, A::join, B::join)
     }
 
     fn same(self, other: Pair<A, B>) -> bool {
@@ -90,10 +101,7 @@ impl<A: Written, B: Written> Written for Pair<A, B> {
 
     fn read(bytes: &[u8]) -> Option<(Pair<A, B>, usize)> {
         let (first, len) = A::read(bytes)?;
-        if len >= bytes.len() || bytes[len] != b'|' {
-            return None;
-        }
-        let rest = &bytes[len + 1..];
+        let rest = bytes.get(len..)?.strip_prefix(b"|")?;
         let (second, more) = B::read(rest)?;
         if more > rest.len() {
             return None;

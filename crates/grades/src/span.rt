@@ -7,11 +7,11 @@ pub mod written;
 // The largest number that an end can be.
 const MOST: u16 = 9999;
 
-// As an upper end: no limit.
+// As an upper end: no limit. It is a number and no `None`, since sums, products, joins and covers compare and round it as one.
 const NO_LIMIT: u16 = 10_000;
 
 // From `lower` to `upper` reads.
-#[derive(Clone, Copy, PartialEq, Eq)]
+#[derive(Clone, Copy, Debug, PartialEq, Eq)]
 pub struct Span {
     lower: u16,
     upper: u16,

@@ -6,7 +6,7 @@ use Rattle.language.specs.declared.heads.TermHead.{TermHead}
 use Rattle.language.specs.declared.heads.TermHead.TheVariants as heads
 use Rattle.language.specs.declared.heads.RuleHead.TheVariants as rule-heads
 use Rattle.tokens.specs.Tokens.{Lexeme, word, number, grade, end, Lexed, token_at}
-use Rattle.language.specs.Reading.{◌then◌, State, Read, changed, with_word, with_binder, parsed, formed, graded, grade_or, grade_of, binder_grade, binder, bound, simple_type, term, term_parts, store_term, rule, ended}
+use Rattle.language.specs.Reading.{◌then◌, State, Read, changed, with_word, with_binder, parsed, graded, grade_or, grade_of, binder_grade, binder, bound, simple_type, term, term_parts, store_term, rule, ended}
 use Rattle.grammar.specs.Syntax.{Label, Ty, Tm, Rule, type_words, type_grades, type_depth, term_words, term_grades, term_depth, rule_inputs, rule_grades, run_of}
 use Rattle.grammar.specs.Grammar.{Lexes, none, more, Ungraded, NoGrade, BinderIn, graded as written, bare, TypeIn, num_type, function_type, TermIn, begun, PartsIn, name_parts, literal_parts, fn_parts, binary_parts, half_parts, less_parts, RuleIn, input-rule, run_rule}
 use Rattle.grammar.specs.Storing.{keep_grade, entry, place_of, typed, parted, termed, ruled}
@@ -30,7 +30,7 @@ parts_place (less_parts x y z w) = refl
 
 module _ {G : Type 0} (reading : List ℕ → Option (G × ℕ)) (one : G) (text : List ℕ) where
   -- a part is read as what is stored of it, and the tokens that are left follow it
-  abbrev Reads : Read G Parsed → ℕ × State G → List (Lexed G) → Type 0
+  abbrev Reads : Read G (Parsed ℕ) → ℕ × State G → List (Lexed G) → Type 0
   Reads r x rest = (next : ℕ) × (r ≡ Ok (parsed x.0 next, x.1)) × Lexes reading text next rest
 
   ungraded : (place behind at next : ℕ) (s : State G) (t : Lexeme G) → Ungraded t → grade_or reading text one place behind t at next s ≡ (graded one place s then λ (i, s). Ok (parsed i behind, s))
@@ -75,7 +75,7 @@ module _ {G : Type 0} (reading : List ℕ → Option (G × ℕ)) (one : G) (text
         (parts.0, start ∙ goes_on _ _ _ (sym parts.1) ∙ ap (λ q. store_term q x.0 parts.0 x.1) (parts_place p), parts.2)
 
     parts_complete : {scope : List (List ℕ)} {p : ℕ} {h : TermHead} {ts rest : List (Lexed G)} {u : Tm G} → PartsIn one scope p h ts u rest → (inner at : ℕ) (s : State G) → Lexes reading text at ts → term_depth u ≤ inner + 1 → s.program.words + term_words u ≤ 513 → s.program.grades + term_grades u ≤ 256 →
-        (next : ℕ) × (term_parts reading text one (simple_type reading text inner) (term reading text one inner) scope h at s ≡ Ok (formed (parted u s).0 next, (parted u s).1)) × Lexes reading text next rest
+        (next : ℕ) × (term_parts reading text one (simple_type reading text inner) (term reading text one inner) scope h at s ≡ Ok (parsed (parted u s).0 next, (parted u s).1)) × Lexes reading text next rest
     parts_complete name_parts inner at s l deep words grades = (at, refl, l)
     parts_complete literal_parts inner at s l deep words grades = (at, refl, l)
     parts_complete {scope} (fn_parts {n = n} {g = g} {a = a} {b = b} x y z) inner at s l deep words grades =
@@ -86,7 +86,7 @@ module _ {G : Type 0} (reading : List ℕ → Option (G × ℕ)) (one : G) (text
         let grown = typed_words a r in
         let more_grades = typed_grades a r in
         let body = term_complete z inner type.0 (typed a r).1 type.2 (omega arith) (omega arith) (omega arith) in
-        (body.0, fn_begun reading text one one (simple_type reading text inner) (term reading text one inner) scope heads.Fn at s refl refl (sym binder.1) refl refl ∙ goes_on _ _ _ (sym type.1) ∙ goes_on _ _ _ (sym body.1), body.2)
+        (body.0, fn_begun reading text one (simple_type reading text inner) (term reading text one inner) scope heads.Fn at s refl (sym binder.1) refl refl ∙ goes_on _ _ _ (sym type.1) ∙ goes_on _ _ _ (sym body.1), body.2)
     parts_complete (binary_parts {a = a} {b = b} x y) inner at s l deep words grades =
         let some = term_some b in
         let left = term_complete x inner at s l (omega arith) (omega arith) (omega arith) in
@@ -123,7 +123,7 @@ module _ {G : Type 0} (reading : List ℕ → Option (G × ℕ)) (one : G) (text
   pub rule_complete : {scope : List (List ℕ)} {ts : List (Lexed G)} {r : Rule G} → RuleIn one scope ts r → (left at : ℕ) (s : State G) → Lexes reading text at ts → rule_inputs r ≤ left → s.program.words + term_words (run_of r) ≤ 512 → s.program.grades + rule_grades r ≤ 256 → term_depth (run_of r) ≤ 24 → rule reading text one left scope at s ≡ Ok (tt, ruled r s)
   rule_complete {scope} (input-rule {t = t} {w = w} {n = n} {g = g} {r = r} is key x y) left at s (more e s1 l) inputs words grades deep =
       let binder = binder_complete x t.next s l (omega arith) in
-      let begun = input_begun reading text one one left scope at s (sym e) (sym (rule_is t.token t.place rule-heads.Input w is key)) refl refl (omega arith) in
+      let begun = input_begun reading text one left scope at s (sym e) (sym (rule_is t.token t.place rule-heads.Input w is key)) refl (omega arith) in
       begun ∙ goes_on _ _ _ (sym binder.1) ∙ rule_complete y (left - 1) binder.0 _ binder.2 (omega arith) (omega arith) (omega arith) deep
   rule_complete {scope} (run_rule {t = t} {w = w} {u = u} is key x) left at s (more e s1 l) inputs words grades deep =
       let body = term_complete x 24 t.next s l deep words grades in

@@ -47,7 +47,7 @@ module _ {G : Type 0} (reading : List ℕ → Option (G × ℕ)) (one : G) (text
   InputsSound left inputs = (place : ℕ) (scope : List (List ℕ)) (at : ℕ) (s : State G) (x : Unit {0} × State G) → inputs place scope at s ≡ Ok x → InputRead left scope at s x
 
   module _ (left : ℕ) (scope : List (List ℕ)) (at : ℕ) (s : State G) (x : Unit {0} × State G) (t : Lexed G) (w : List ℕ) (lexed : token_at reading text at ≡ Ok t) (is : t.token ≡ word w) where
-    run_sound : keyword_of w ≡ Some (rule_keyword rule-heads.Run) → (a : Parsed × State G) (u : Lexed G) → term reading text one 24 scope t.next s ≡ Ok a → token_at reading text a.0.next ≡ Ok u → u.token ≡ end → ◌≡◌ {A = Unit {0} × State G} (tt, a.1) x → RuleRead left scope at s x
+    run_sound : keyword_of w ≡ Some (rule_keyword rule-heads.Run) → (a : Parsed ℕ × State G) (u : Lexed G) → term reading text one 24 scope t.next s ≡ Ok a → token_at reading text a.0.next ≡ Ok u → u.token ≡ end → ◌≡◌ {A = Unit {0} × State G} (tt, a.1) x → RuleRead left scope at s x
     run_sound key a u e1 e2 last gives =
         let body = term_sound reading one text 24 scope t.next s a [] e1 (none e2 last) in
         record {

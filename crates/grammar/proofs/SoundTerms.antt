@@ -1,13 +1,13 @@
 -- Terms that are read are terms of the grammar. Assumes nothing.
 use Rattle.std.proofs.Common.{◌≡◌, ℕ, zero, suc, ◌-◌, ◌<◌, ◌≤◌, List, ◌∷◌, length, Ok, Option, sym, ap, ◌∙◌, subst, arith}
+use Rattle.language.specs.declared.program.Term.{Term}
 use Rattle.language.specs.declared.program.Term.TheVariants.{Fn, Half, Less}
 use Rattle.language.specs.declared.heads.Binary.{Binary}
 use Rattle.language.specs.declared.heads.Parsed.{Parsed}
-use Rattle.language.specs.declared.heads.Formed.{Formed}
 use Rattle.language.specs.declared.heads.TermHead.{TermHead}
 use Rattle.language.specs.declared.heads.TermHead.TheVariants as heads
 use Rattle.tokens.specs.Tokens.{Lexeme, Lexed, token_at}
-use Rattle.language.specs.Reading.{◌then◌, State, state, Read, changed, with_word, with_binder, counted, binder, Bound, type_inside, term_head, formed, term_parts, term_inside, term, store_term}
+use Rattle.language.specs.Reading.{◌then◌, State, state, Read, changed, with_word, with_binder, counted, binder, Bound, type_inside, term_head, parsed, term_parts, term_inside, term, store_term}
 use Rattle.language.specs.Reading as forms
 use Rattle.grammar.specs.Syntax.{Tm, name, literal, fn, binary, half, less, type_depth, term_depth}
 use Rattle.grammar.specs.Grammar.{Lexes, more, Solid, Begins, by_name, by_number, by_fn, by_call, by_add, by_sub, by_half, by_less, TermIn, begun, PartsIn, name_parts, literal_parts, fn_parts, binary_parts, half_parts, less_parts}
@@ -29,34 +29,34 @@ solid_begins (by_less e) = tt
 
 module _ {G : Type 0} (reading : List ℕ → Option (G × ℕ)) (one : G) (text : List ℕ) where
   -- tokens of a term with its tree and where it is stored
-  pub record TermRead (d : ℕ) (scope : List (List ℕ)) (at : ℕ) (s : State G) (x : Parsed × State G) (rest : List (Lexed G)) : Type 0 where
+  pub record TermRead (d : ℕ) (scope : List (List ℕ)) (at : ℕ) (s : State G) (x : Parsed ℕ × State G) (rest : List (Lexed G)) : Type 0 where
     pub tokens : List (Lexed G)
     pub tree : Tm G
     pub lexes : Lexes reading text at tokens
     pub parses : TermIn one scope tokens tree rest
-    pub stored : (x.0.index, x.1) ≡ termed tree s
+    pub stored : (x.0.value, x.1) ≡ termed tree s
     pub deep : term_depth tree ≤ d
     pub few_words : x.1.program.words ≤ 512
     pub few_grades : s.program.grades ≤ 256 → x.1.program.grades ≤ 256
 
   -- tokens of the parts of a term, with its tree
-  pub record PartsRead (d : ℕ) (scope : List (List ℕ)) (place : ℕ) (h : TermHead) (at : ℕ) (s : State G) (x : Formed × State G) (rest : List (Lexed G)) : Type 0 where
+  pub record PartsRead (d : ℕ) (scope : List (List ℕ)) (place : ℕ) (h : TermHead) (at : ℕ) (s : State G) (x : Parsed Term × State G) (rest : List (Lexed G)) : Type 0 where
     pub tokens : List (Lexed G)
     pub tree : Tm G
     pub lexes : Lexes reading text at tokens
     pub parses : PartsIn one scope place h tokens tree rest
-    pub stored : (x.0.term, x.1) ≡ parted tree s
+    pub stored : (x.0.value, x.1) ≡ parted tree s
     pub deep : term_depth tree ≤ d
     pub few_words : s.program.words ≤ 512 → x.1.program.words ≤ 512
     pub few_grades : s.program.grades ≤ 256 → x.1.program.grades ≤ 256
 
   -- a reader gives terms of so many levels at most
-  abbrev pub TermsSound : ℕ → (List (List ℕ) → ℕ → State G → Read G Parsed) → Type 0
-  TermsSound d part = (scope : List (List ℕ)) (at : ℕ) (s : State G) (x : Parsed × State G) (rest : List (Lexed G)) → part scope at s ≡ Ok x → Lexes reading text x.0.next rest → TermRead d scope at s x rest
+  abbrev pub TermsSound : ℕ → (List (List ℕ) → ℕ → State G → Read G (Parsed ℕ)) → Type 0
+  TermsSound d part = (scope : List (List ℕ)) (at : ℕ) (s : State G) (x : Parsed ℕ × State G) (rest : List (Lexed G)) → part scope at s ≡ Ok x → Lexes reading text x.0.next rest → TermRead d scope at s x rest
 
-  module _ (d : ℕ) (some : 0 < d) (types : TypesSound reading one text (d - 1) (type_inside reading text d)) (inside : TermsSound (d - 1) (term_inside reading text one d)) (scope : List (List ℕ)) (place at : ℕ) (s : State G) (x : Formed × State G) (rest : List (Lexed G)) (left : Lexes reading text x.0.next rest) where
-    fn_sound : (n : Bound × State G) (a b : Parsed × State G) → binder reading text one at s ≡ Ok n → type_inside reading text d n.0.next (changed (λ p. with_binder p n.0.entry) n.1) ≡ Ok a → term_inside reading text one d (n.0.name ∷ scope) a.0.next a.1 ≡ Ok b →
-        ◌≡◌ {A = Formed × State G} (formed (Fn (length n.1.program.binders) a.0.index b.0.index) b.0.next, b.1) x → PartsRead d scope place heads.Fn at s x rest
+  module _ (d : ℕ) (some : 0 < d) (types : TypesSound reading one text (d - 1) (type_inside reading text d)) (inside : TermsSound (d - 1) (term_inside reading text one d)) (scope : List (List ℕ)) (place at : ℕ) (s : State G) (x : Parsed Term × State G) (rest : List (Lexed G)) (left : Lexes reading text x.0.next rest) where
+    fn_sound : (n : Bound × State G) (a b : Parsed ℕ × State G) → binder reading text one at s ≡ Ok n → type_inside reading text d n.0.next (changed (λ p. with_binder p n.0.entry) n.1) ≡ Ok a → term_inside reading text one d (n.0.name ∷ scope) a.0.next a.1 ≡ Ok b →
+        ◌≡◌ {A = Parsed Term × State G} (parsed (Fn (length n.1.program.binders) a.0.value b.0.value) b.0.next, b.1) x → PartsRead d scope place heads.Fn at s x rest
     fn_sound n a b e1 e2 e3 gives =
         let body = inside (n.0.name ∷ scope) a.0.next a.1 b rest e3 (subst (λ q. Lexes reading text q rest) (sym (ap (λ z. z.0.next) gives)) left) in
         let type = types n.0.next (changed (λ p. with_binder p n.0.entry) n.1) a body.tokens e2 body.lexes in
@@ -68,8 +68,8 @@ module _ {G : Type 0} (reading : List ℕ → Option (G × ℕ)) (one : G) (text
           lexes = bound.lexes;
           parses = fn_parts bound.parses type.parses (subst (λ w. TermIn one (w ∷ scope) body.tokens body.tree rest) bound.bytes body.parses);
           stored =
-              ap (λ z. (z.0.term, z.1)) (sym gives)
-              ∙ ap (λ z. (Fn (length n.1.program.binders) a.0.index z.0, z.1)) body.stored
+              ap (λ z. (z.0.value, z.1)) (sym gives)
+              ∙ ap (λ z. (Fn (length n.1.program.binders) a.0.value z.0, z.1)) body.stored
               ∙ ap (λ z. (Fn (length n.1.program.binders) z.0 (termed body.tree z.1).0, (termed body.tree z.1).1)) type.stored
               ∙ ap (λ q. let z = typed type.tree (changed (λ p. with_binder p q) n.1) in (Fn (length n.1.program.binders) z.0 (termed body.tree z.1).0, (termed body.tree z.1).1)) bound.entered
               ∙ ap (λ r. let z = typed type.tree (changed (λ p. with_binder p (entry bound.name i.0)) r) in (Fn (length r.program.binders) z.0 (termed body.tree z.1).0, (termed body.tree z.1).1)) bound.stored;
@@ -78,8 +78,8 @@ module _ {G : Type 0} (reading : List ℕ → Option (G × ℕ)) (one : G) (text
           few_grades = λ _. subst (λ z. z.1.program.grades ≤ 256) gives (body.few_grades (type.few_grades (subst (λ r. r.program.grades ≤ 256) (sym bound.stored) (one_more bound.few))));
         }
 
-    binary_sound : (form : Binary) (a b : Parsed × State G) → term_inside reading text one d scope at s ≡ Ok a → term_inside reading text one d scope a.0.next a.1 ≡ Ok b →
-        ◌≡◌ {A = Formed × State G} (formed (forms.binary form a.0.index b.0.index) b.0.next, b.1) x → PartsRead d scope place (heads.Binary form) at s x rest
+    binary_sound : (form : Binary) (a b : Parsed ℕ × State G) → term_inside reading text one d scope at s ≡ Ok a → term_inside reading text one d scope a.0.next a.1 ≡ Ok b →
+        ◌≡◌ {A = Parsed Term × State G} (parsed (forms.binary form a.0.value b.0.value) b.0.next, b.1) x → PartsRead d scope place (heads.Binary form) at s x rest
     binary_sound form a b e1 e2 gives =
         let second = inside scope a.0.next a.1 b rest e2 (subst (λ q. Lexes reading text q rest) (sym (ap (λ z. z.0.next) gives)) left) in
         let first = inside scope at s a second.tokens e1 second.lexes in
@@ -89,16 +89,16 @@ module _ {G : Type 0} (reading : List ℕ → Option (G × ℕ)) (one : G) (text
           lexes = first.lexes;
           parses = binary_parts first.parses second.parses;
           stored =
-              ap (λ z. (z.0.term, z.1)) (sym gives)
-              ∙ ap (λ z. (forms.binary form a.0.index z.0, z.1)) second.stored
+              ap (λ z. (z.0.value, z.1)) (sym gives)
+              ∙ ap (λ z. (forms.binary form a.0.value z.0, z.1)) second.stored
               ∙ ap (λ z. (forms.binary form z.0 (termed second.tree z.1).0, (termed second.tree z.1).1)) first.stored;
           deep = deeper_two d (term_depth first.tree) (term_depth second.tree) some first.deep second.deep;
           few_words = λ _. subst (λ z. z.1.program.words ≤ 512) gives second.few_words;
           few_grades = λ few. subst (λ z. z.1.program.grades ≤ 256) gives (second.few_grades (first.few_grades few));
         }
 
-    half_sound : (a : Parsed × State G) → term_inside reading text one d scope at s ≡ Ok a →
-        ◌≡◌ {A = Formed × State G} (formed (Half a.0.index) a.0.next, a.1) x → PartsRead d scope place heads.Half at s x rest
+    half_sound : (a : Parsed ℕ × State G) → term_inside reading text one d scope at s ≡ Ok a →
+        ◌≡◌ {A = Parsed Term × State G} (parsed (Half a.0.value) a.0.next, a.1) x → PartsRead d scope place heads.Half at s x rest
     half_sound a e1 gives =
         let first = inside scope at s a rest e1 (subst (λ q. Lexes reading text q rest) (sym (ap (λ z. z.0.next) gives)) left) in
         record {
@@ -106,14 +106,14 @@ module _ {G : Type 0} (reading : List ℕ → Option (G × ℕ)) (one : G) (text
           tree = half place first.tree;
           lexes = first.lexes;
           parses = half_parts first.parses;
-          stored = ap (λ z. (z.0.term, z.1)) (sym gives) ∙ ap (λ z. (Half z.0, z.1)) first.stored;
+          stored = ap (λ z. (z.0.value, z.1)) (sym gives) ∙ ap (λ z. (Half z.0, z.1)) first.stored;
           deep = deeper_one d (term_depth first.tree) some first.deep;
           few_words = λ _. subst (λ z. z.1.program.words ≤ 512) gives first.few_words;
           few_grades = λ few. subst (λ z. z.1.program.grades ≤ 256) gives (first.few_grades few);
         }
 
-    less_sound : (a b c f : Parsed × State G) → term_inside reading text one d scope at s ≡ Ok a → term_inside reading text one d scope a.0.next a.1 ≡ Ok b → term_inside reading text one d scope b.0.next b.1 ≡ Ok c → term_inside reading text one d scope c.0.next c.1 ≡ Ok f →
-        ◌≡◌ {A = Formed × State G} (formed (Less a.0.index b.0.index c.0.index f.0.index) f.0.next, f.1) x → PartsRead d scope place heads.Less at s x rest
+    less_sound : (a b c f : Parsed ℕ × State G) → term_inside reading text one d scope at s ≡ Ok a → term_inside reading text one d scope a.0.next a.1 ≡ Ok b → term_inside reading text one d scope b.0.next b.1 ≡ Ok c → term_inside reading text one d scope c.0.next c.1 ≡ Ok f →
+        ◌≡◌ {A = Parsed Term × State G} (parsed (Less a.0.value b.0.value c.0.value f.0.value) f.0.next, f.1) x → PartsRead d scope place heads.Less at s x rest
     less_sound a b c f e1 e2 e3 e4 gives =
         let fourth = inside scope c.0.next c.1 f rest e4 (subst (λ q. Lexes reading text q rest) (sym (ap (λ z. z.0.next) gives)) left) in
         let third = inside scope b.0.next b.1 c fourth.tokens e3 fourth.lexes in
@@ -125,10 +125,10 @@ module _ {G : Type 0} (reading : List ℕ → Option (G × ℕ)) (one : G) (text
           lexes = first.lexes;
           parses = less_parts first.parses second.parses third.parses fourth.parses;
           stored =
-              ap (λ z. (z.0.term, z.1)) (sym gives)
-              ∙ ap (λ z. (Less a.0.index b.0.index c.0.index z.0, z.1)) fourth.stored
-              ∙ ap (λ z. (Less a.0.index b.0.index z.0 (termed fourth.tree z.1).0, (termed fourth.tree z.1).1)) third.stored
-              ∙ ap (λ z. let y = termed third.tree z.1 in (Less a.0.index z.0 y.0 (termed fourth.tree y.1).0, (termed fourth.tree y.1).1)) second.stored
+              ap (λ z. (z.0.value, z.1)) (sym gives)
+              ∙ ap (λ z. (Less a.0.value b.0.value c.0.value z.0, z.1)) fourth.stored
+              ∙ ap (λ z. (Less a.0.value b.0.value z.0 (termed fourth.tree z.1).0, (termed fourth.tree z.1).1)) third.stored
+              ∙ ap (λ z. let y = termed third.tree z.1 in (Less a.0.value z.0 y.0 (termed fourth.tree y.1).0, (termed fourth.tree y.1).1)) second.stored
               ∙ ap (λ z. let w = termed second.tree z.1 in let y = termed third.tree w.1 in (Less z.0 w.0 y.0 (termed fourth.tree y.1).0, (termed fourth.tree y.1).1)) first.stored;
           deep = deeper_four d (term_depth first.tree) (term_depth second.tree) (term_depth third.tree) (term_depth fourth.tree) some first.deep second.deep third.deep fourth.deep;
           few_words = λ _. subst (λ z. z.1.program.words ≤ 512) gives fourth.few_words;
@@ -143,7 +143,7 @@ module _ {G : Type 0} (reading : List ℕ → Option (G × ℕ)) (one : G) (text
           tree = name place k;
           lexes = subst (λ q. Lexes reading text q rest) (sym (ap (λ z. z.0.next) gives)) left;
           parses = name_parts;
-          stored = ap (λ z. (z.0.term, z.1)) (sym gives);
+          stored = ap (λ z. (z.0.value, z.1)) (sym gives);
           deep = some;
           few_words = subst (λ z. z.1.program.words ≤ 512) gives;
           few_grades = subst (λ z. z.1.program.grades ≤ 256) gives;
@@ -155,7 +155,7 @@ module _ {G : Type 0} (reading : List ℕ → Option (G × ℕ)) (one : G) (text
           tree = literal place v;
           lexes = subst (λ q. Lexes reading text q rest) (sym (ap (λ z. z.0.next) gives)) left;
           parses = literal_parts;
-          stored = ap (λ z. (z.0.term, z.1)) (sym gives);
+          stored = ap (λ z. (z.0.value, z.1)) (sym gives);
           deep = some;
           few_words = subst (λ z. z.1.program.words ≤ 512) gives;
           few_grades = subst (λ z. z.1.program.grades ≤ 256) gives;
@@ -194,7 +194,7 @@ module _ {G : Type 0} (reading : List ℕ → Option (G × ℕ)) (one : G) (text
       let begins = begins_from scope t.token t.place h head.1 in
       let count = then_ok (counted d t.place s.program) _ x head.2 in
       let known = counted_from d t.place s.program count.0 count.1 in
-      let k = subst (λ z. (term_parts reading text one (type_inside reading text d) (term_inside reading text one d) scope h t.next (state z.1 s.list) then λ (f, s). store_term t.place f.term f.next s) ≡ Ok x) known.2 count.2 in
+      let k = subst (λ z. (term_parts reading text one (type_inside reading text d) (term_inside reading text one d) scope h t.next (state z.1 s.list) then λ (f, s). store_term t.place f.value f.next s) ≡ Ok x) known.2 count.2 in
       let step = then_ok (term_parts reading text one (type_inside reading text d) (term_inside reading text one d) scope h t.next (changed with_word s)) _ x k in
       let f = step.0 in
       let gives = ok_same _ _ step.2 in
@@ -205,7 +205,7 @@ module _ {G : Type 0} (reading : List ℕ → Option (G × ℕ)) (one : G) (text
         lexes = more token.1 (solid_begins begins) parts.lexes;
         parses = begun begins parts.parses;
         stored =
-            ap (λ z. (z.0.index, z.1)) (sym gives)
+            ap (λ z. (z.0.value, z.1)) (sym gives)
             ∙ ap (keep_node t.place) parts.stored
             ∙ ap (λ q. keep_node q (parted parts.tree (changed with_word s))) (parts_place parts.parses);
         deep = parts.deep;

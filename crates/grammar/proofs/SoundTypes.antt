@@ -40,7 +40,7 @@ module _ {G : Type 0} (reading : List ℕ → Option (G × ℕ)) (one : G) (text
   no_grade_from u (none e f) e' un = tt
   no_grade_from u (more {t = t} e s l) e' un = subst (λ x. Ungraded x.token) (ok_same u t (sym e' ∙ e)) un
 
-  module _ (at : ℕ) (s : State G) (x : Bound × State G) (rest : List (Lexed G)) (t : Lexed G) (w : List ℕ) (lexed : token_at reading text at ≡ Ok t) (is : t.token ≡ word w) (key : keyword_of w ≡ None) (y : Parsed × State G) (gives : ◌≡◌ {A = Bound × State G} (bound w (record { place = t.place; len = length w; grade = y.0.index }) y.0.next, y.1) x) (left : Lexes reading text x.0.next rest) where
+  module _ (at : ℕ) (s : State G) (x : Bound × State G) (rest : List (Lexed G)) (t : Lexed G) (w : List ℕ) (lexed : token_at reading text at ≡ Ok t) (is : t.token ≡ word w) (key : keyword_of w ≡ None) (y : Parsed ℕ × State G) (gives : ◌≡◌ {A = Bound × State G} (bound w (record { place = t.place; len = length w; grade = y.0.value }) y.0.next, y.1) x) (left : Lexes reading text x.0.next rest) where
     -- the binder is bare
     bare_read : (u : Lexed G) → token_at reading text t.next ≡ Ok u → Ungraded u.token → (graded one t.place s then λ (i, s). Ok (parsed i t.next, s)) ≡ Ok y → BinderRead at s x rest
     bare_read u e un k =
@@ -56,7 +56,7 @@ module _ {G : Type 0} (reading : List ℕ → Option (G × ℕ)) (one : G) (text
           lexes = more lexed (solid_word t.token w is) l;
           parses = bare is key (no_grade_from u l e un);
           bytes = sym (ap (λ z. z.0.name) gives);
-          entered = sym (ap (λ z. z.0.entry) gives) ∙ ap (λ z. record { place = t.place; len = length w; grade = z.0.index }) (sym is_y);
+          entered = sym (ap (λ z. z.0.entry) gives) ∙ ap (λ z. record { place = t.place; len = length w; grade = z.0.value }) (sym is_y);
           stored = sym (ap (λ z. z.1) gives) ∙ ap (λ z. z.1) (sym is_y);
           few = kept.0;
         }
@@ -74,7 +74,7 @@ module _ {G : Type 0} (reading : List ℕ → Option (G × ℕ)) (one : G) (text
           lexes = more lexed (solid_word t.token w is) (more e (solid_grade u.token v g ge) (subst (λ q. Lexes reading text q rest) next left));
           parses = written is key ge;
           bytes = sym (ap (λ z. z.0.name) gives);
-          entered = sym (ap (λ z. z.0.entry) gives) ∙ ap (λ z. record { place = t.place; len = length w; grade = z.0.index }) (sym is_y);
+          entered = sym (ap (λ z. z.0.entry) gives) ∙ ap (λ z. record { place = t.place; len = length w; grade = z.0.value }) (sym is_y);
           stored = sym (ap (λ z. z.1) gives) ∙ ap (λ z. z.1) (sym is_y);
           few = kept.0;
         }
@@ -96,21 +96,21 @@ module _ {G : Type 0} (reading : List ℕ → Option (G × ℕ)) (one : G) (text
       by_token at s x rest t named.0 one_token.1 is.0 is.1 graded.0 (ok_same _ _ graded.2) left after.0 after.0.token after.1 refl after.2
 
   -- tokens of a type with its tree and where it is stored
-  pub record TypeRead (d at : ℕ) (s : State G) (x : Parsed × State G) (rest : List (Lexed G)) : Type 0 where
+  pub record TypeRead (d at : ℕ) (s : State G) (x : Parsed ℕ × State G) (rest : List (Lexed G)) : Type 0 where
     pub tokens : List (Lexed G)
     pub tree : Ty G
     pub lexes : Lexes reading text at tokens
     pub parses : TypeIn one tokens tree rest
-    pub stored : (x.0.index, x.1) ≡ typed tree s
+    pub stored : (x.0.value, x.1) ≡ typed tree s
     pub deep : type_depth tree ≤ d
     pub few_words : x.1.program.words ≤ 512
     pub few_grades : s.program.grades ≤ 256 → x.1.program.grades ≤ 256
 
   -- a reader gives types of so many levels at most
-  abbrev pub TypesSound : ℕ → (ℕ → State G → Read G Parsed) → Type 0
-  TypesSound d part = (at : ℕ) (s : State G) (x : Parsed × State G) (rest : List (Lexed G)) → part at s ≡ Ok x → Lexes reading text x.0.next rest → TypeRead d at s x rest
+  abbrev pub TypesSound : ℕ → (ℕ → State G → Read G (Parsed ℕ)) → Type 0
+  TypesSound d part = (at : ℕ) (s : State G) (x : Parsed ℕ × State G) (rest : List (Lexed G)) → part at s ≡ Ok x → Lexes reading text x.0.next rest → TypeRead d at s x rest
 
-  module _ (d : ℕ) (inside : TypesSound (d - 1) (type_inside reading text d)) (at : ℕ) (s : State G) (x : Parsed × State G) (rest : List (Lexed G)) (left : Lexes reading text x.0.next rest) (some : 0 < d) (few_words : s.program.words < 512) (t : Lexed G) (w : List ℕ) (lexed : token_at reading text at ≡ Ok t) (is : t.token ≡ word w) where
+  module _ (d : ℕ) (inside : TypesSound (d - 1) (type_inside reading text d)) (at : ℕ) (s : State G) (x : Parsed ℕ × State G) (rest : List (Lexed G)) (left : Lexes reading text x.0.next rest) (some : 0 < d) (few_words : s.program.words < 512) (t : Lexed G) (w : List ℕ) (lexed : token_at reading text at ≡ Ok t) (is : t.token ≡ word w) where
     rest_sound : (h : TypeHead) → keyword_of w ≡ Some (type_keyword h) → type_rest reading text (type_inside reading text d) h t.next (changed with_word s) ≡ Ok x → TypeRead d at s x rest
     rest_sound type-heads.Num key k =
         let gives = ok_same _ _ k in
@@ -119,7 +119,7 @@ module _ {G : Type 0} (reading : List ℕ → Option (G × ℕ)) (one : G) (text
           tree = num;
           lexes = more lexed (solid_word t.token w is) (subst (λ q. Lexes reading text q rest) (sym (ap (λ z. z.0.next) gives)) left);
           parses = num_type is key;
-          stored = ap (λ z. (z.0.index, z.1)) (sym gives);
+          stored = ap (λ z. (z.0.value, z.1)) (sym gives);
           deep = some;
           few_words = subst (λ z. z.1.program.words ≤ 512) gives (omega arith);
           few_grades = λ few. subst (λ z. z.1.program.grades ≤ 256) gives few;
@@ -148,9 +148,9 @@ module _ {G : Type 0} (reading : List ℕ → Option (G × ℕ)) (one : G) (text
           lexes = more lexed (solid_word t.token w is) (more token.1 (solid_grade u.token ge.0 g ge.1) first.lexes);
           parses = function_type is key ge.1 first.parses second.parses;
           stored =
-              ap (λ z. (z.0.index, z.1)) (sym gives)
-              ∙ ap (λ z. keep_type (To z.0 a.0.index b.0.index) b.1) kept.1
-              ∙ ap (λ z. keep_type (To i.0 a.0.index z.0) z.1) second.stored
+              ap (λ z. (z.0.value, z.1)) (sym gives)
+              ∙ ap (λ z. keep_type (To z.0 a.0.value b.0.value) b.1) kept.1
+              ∙ ap (λ z. keep_type (To i.0 a.0.value z.0) z.1) second.stored
               ∙ ap (λ z. keep_type (To i.0 z.0 (typed second.tree z.1).0) (typed second.tree z.1).1) first.stored;
           deep = deeper_two d (type_depth first.tree) (type_depth second.tree) some first.deep second.deep;
           few_words = subst (λ z. z.1.program.words ≤ 512) gives second.few_words;

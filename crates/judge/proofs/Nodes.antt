@@ -1,5 +1,5 @@
 -- What a node of the program says of its term and its parts. Assumes nothing.
-use Rattle.std.proofs.Common.{◌≡◌, ℕ, ◌<◌, ◌≤◌, true, ◌&&◌, ltb, List, [], length, get_or, IfOk, Ok, Err, Result, sym, refl, ap, ◌∙◌, subst, arith}
+use Rattle.std.proofs.Common.{◌≡◌, ℕ, ◌<◌, ◌≤◌, true, ◌&&◌, ◌⊎◌, ltb, List, [], length, get_or, IfOk, Ok, Err, Result, sym, refl, ap, ◌∙◌, subst, ⊎_elim, arith}
 use Rattle.std.proofs.lemmas.List.{get_or_read}
 use Rattle.std.proofs.lemmas.Bool.{and_parts, ltb-true}
 use Rattle.tokens.specs.declared.refusal.Fault.{Fault}
@@ -8,15 +8,17 @@ use Rattle.language.specs.declared.program.Term.{Term}
 use Rattle.language.specs.declared.program.Term.TheVariants.{Name, Number, Fn, Call, Add, Sub, Half, Less}
 use Rattle.language.specs.declared.program.Node.{Node}
 use Rattle.language.specs.Tables.{no_node, type_sound, term_sound, NodesSound}
-use Rattle.language.specs.Reading.{Tables}
+use Rattle.language.specs.Growth.{TermFits}
+use Rattle.language.specs.Reading.{Tables, tables_of}
 use Rattle.grades.specs.declared.algebra.Algebra.{Ghosts}
-use Rattle.grammar.specs.Syntax.{Tm}
+use Rattle.grammar.specs.Syntax.{Ty, Tm}
 use Rattle.grammar.specs.Storing.{place_of}
 use Rattle.grammar.specs.Closing.{needed, nesting, functions}
 use Rattle.grammar.proofs.Entries.{term-entry}
 use Rattle.typing.specs.Judging.{judged}
-use Rattle.judge.specs.declared.context.Context.{Context}
-use Rattle.judge.specs.Meaning.{term_in, term_at}
+use Rattle.judge.specs.declared.graded.GradedRule.{GradedRule}
+use Rattle.judge.specs.declared.table.TypeTable.{TypeTable}
+use Rattle.judge.specs.Meaning.{term_in, term_at, part, node_at}
 use Rattle.judge.specs.Progress.{Ready, Grown, Judges, context_types}
 use Rattle.judge.proofs.Parts.{grown_within}
 
@@ -82,9 +84,8 @@ module _ (t : Tables) (b y : ℕ) (sound : NodesSound b y t.nodes) (i : ℕ) (be
   node_place nil list = ap place_of (node_term nil list n.term refl) ∙ place_form nil list n.place n.term
 
 -- a term of the same size is ready too
-pub ready_as : {G : Type 0} {list : List G} {t : Tables} {types : List SimpleType} {c : Context} {u : Tm G} (v : Tm G) → Ready list t types c u → needed v ≤ needed u → nesting v ≤ nesting u → functions v ≤ functions u → Ready list t types c v
+pub ready_as : {G : Type 0} {p : GradedRule G} {types : TypeTable} {c : List SimpleType} {u : Tm G} (v : Tm G) → Ready p c types u → needed v ≤ needed u → nesting v ≤ nesting u → functions v ≤ functions u → Ready p c types v
 ready_as v r names levels room = record {
-  long = r.long;
   added = r.added;
   begins = r.begins;
   sound = r.sound;
@@ -93,10 +94,77 @@ ready_as v r names levels room = record {
   room = omega (arith, r.room);
 }
 
+-- a term is of one size at every place
+same_size : {G : Type 0} (nil : G) (p : GradedRule G) (place : ℕ) (u : Term) → (needed (part nil p u) ≡ needed (term_in nil p.grades.now (tables_of p.rule.now.program) place u)) × (nesting (part nil p u) ≡ nesting (term_in nil p.grades.now (tables_of p.rule.now.program) place u)) × (functions (part nil p u) ≡ functions (term_in nil p.grades.now (tables_of p.rule.now.program) place u))
+same_size nil p place (Name k) = (refl, refl, refl)
+same_size nil p place (Number z) = (refl, refl, refl)
+same_size nil p place (Fn binder domain body) = (refl, refl, refl)
+same_size nil p place (Call function argument) = (refl, refl, refl)
+same_size nil p place (Add left right) = (refl, refl, refl)
+same_size nil p place (Sub left right) = (refl, refl, refl)
+same_size nil p place (Half half) = (refl, refl, refl)
+same_size nil p place (Less left right below otherwise) = (refl, refl, refl)
+
+-- what is older than an entry of the table is there
+there : (t : Tables) (i : ℕ) (u : Term) → i < length t.nodes → Older (length t.binders) (length t.types) i u → TermFits t u
+there t i (Name k) below o = tt
+there t i (Number z) below o = tt
+there t i (Fn binder domain body) below o = (o.0, o.1, omega (arith, o.2))
+there t i (Call function argument) below o = (omega (arith, o.0), omega (arith, o.1))
+there t i (Add left right) below o = (omega (arith, o.0), omega (arith, o.1))
+there t i (Sub left right) below o = (omega (arith, o.0), omega (arith, o.1))
+there t i (Half half) below o = omega arith
+there t i (Less left right below' otherwise) below o = (omega (arith, o.0), omega (arith, o.1), omega (arith, o.2), omega (arith, o.3))
+
+-- what a node that was read says of the term of its number
+pub record Opened {G : Type 0} (nil : G) (p : GradedRule G) (c : List SimpleType) (types : TypeTable) (i place : ℕ) (u : Term) : Type 0 where
+  pub is : node_at nil p i ≡ term_in nil p.grades.now (tables_of p.rule.now.program) place u
+  pub older : Older (length p.rule.now.program.binders.items) (length p.rule.now.program.types.items) i u
+  pub fits : TermFits (tables_of p.rule.now.program) u
+  pub ready : Ready p c types (part nil p u)
+
+pub opened : {G : Type 0} (nil : G) (p : GradedRule G) {c : List SimpleType} {types : TypeTable} (i : ℕ) (n : Node) (u : Term) → i < length p.rule.now.program.nodes.items → n ≡ get_or p.rule.now.program.nodes.items i n → n.term ≡ u → Ready p c types (node_at nil p i) → Opened nil p c types i n.place u
+opened nil p {c} {types} i n u below read term ready =
+    let t = tables_of p.rule.now.program in
+    let is = node_term t _ _ p.rule.now.program.nodes_sound i below n read nil p.grades.now u term in
+    let parts = node_older t _ _ p.rule.now.program.nodes_sound i below n read u term in
+    let size = same_size nil p n.place u in
+    record {
+      is = is;
+      older = parts;
+      fits = there t i u below parts;
+      ready = ready_as (part nil p u) (subst (Ready p c types) is ready) (omega (arith, size.0)) (omega (arith, size.1)) (omega (arith, size.2));
+    }
+
+-- what a node that was read as a sum or a difference says of the term of its number, which is judged as the sum is
+pub record Sums {G : Type 0} (a : Ghosts G) (p : GradedRule G) (c : List SimpleType) (types : TypeTable) (i left right : ℕ) : Type 0 where
+  pub older : (left < i) × (right < i)
+  pub fits : TermFits (tables_of p.rule.now.program) (Add left right)
+  pub ready : Ready p c types (part a.nil p (Add left right))
+  pub same : (context : List (Ty G)) → judged a context (node_at a.nil p i) ≡ judged a context (part a.nil p (Add left right))
+  pub size : functions (node_at a.nil p i) ≡ functions (part a.nil p (Add left right))
+
+pub sum_opened : {G : Type 0} (a : Ghosts G) (p : GradedRule G) {c : List SimpleType} {types : TypeTable} (i : ℕ) (n : Node) (left right : ℕ) → i < length p.rule.now.program.nodes.items → n ≡ get_or p.rule.now.program.nodes.items i n → (n.term ≡ Add left right) ⊎ (n.term ≡ Sub left right) → Ready p c types (node_at a.nil p i) → Sums a p c types i left right
+sum_opened a p {c} {types} i n left right below read either ready =
+    ⊎_elim
+    (λ e.
+    let o = opened a.nil p i n (Add left right) below read e ready in
+    record { older = o.older; fits = o.fits; ready = o.ready; same = λ context. ap (judged a context) o.is; size = ap functions o.is })
+    (λ e.
+    let o = opened a.nil p i n (Sub left right) below read e ready in
+    record {
+      older = o.older;
+      fits = o.fits;
+      ready = ready_as (part a.nil p (Add left right)) o.ready (omega arith) (omega arith) (omega arith);
+      same = λ context. ap (judged a context) o.is;
+      size = ap functions o.is;
+    })
+    either
+
 -- what judges a term judges every other that is judged so
-pub judges_as : {G : Type 0} {a : Ghosts G} {list : List G} {c : Context} {u : Tm G} (v : Tm G) {before after : List SimpleType} (r : Result SimpleType Fault) {w : List G} → Judges a list c u before after r w → judged a (context_types a.nil list before c) v ≡ judged a (context_types a.nil list before c) u → functions u ≤ functions v → Judges a list c v before after r w
+pub judges_as : {G : Type 0} {a : Ghosts G} {p : GradedRule G} {c : List SimpleType} {u : Tm G} (v : Tm G) {before after : TypeTable} (r : Result SimpleType Fault) {w : List G} → Judges a p c u before after r w → judged a (context_types a.nil p.grades.now before.types.items c) v ≡ judged a (context_types a.nil p.grades.now before.types.items c) u → functions u ≤ functions v → Judges a p c v before after r w
 judges_as {u = u} v {before} {after} r j same few = record { answer = j.answer ∙ sym same; grows = within r j.grows }
   where
-    within : (q : Result SimpleType Fault) → IfOk q (λ s. Grown (functions u) before after × (type_sound 256 (length after) s ≡ true)) → IfOk q (λ s. Grown (functions v) before after × (type_sound 256 (length after) s ≡ true))
+    within : (q : Result SimpleType Fault) → IfOk q (λ s. Grown (functions u) before after × (type_sound 256 (length after.types.items) s ≡ true)) → IfOk q (λ s. Grown (functions v) before after × (type_sound 256 (length after.types.items) s ≡ true))
     within (Ok s) g = (grown_within few g.0, g.1)
     within (Err f) g = tt

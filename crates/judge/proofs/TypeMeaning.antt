@@ -1,6 +1,5 @@
 -- What types stand for in a table, and when two of them are the same. Assumes nothing.
-use Rattle.std.proofs.Common.{◌≡◌, ℕ, ◌<◌, ◌≤◌, Bool, true, false, ◌&&◌, ltb, List, [], ◌++◌, length, get_or, Decides, sym, refl, ap, ◌∙◌, arith}
-use Rattle.std.proofs.lemmas.List.{get_or_read}
+use Rattle.std.proofs.Common.{◌≡◌, ℕ, ◌<◌, Bool, true, false, ◌&&◌, ltb, List, [], ◌++◌, length, get_or, Decides, sym, refl, ap, ◌∙◌}
 use Rattle.std.proofs.lemmas.Bool.{and_parts, ltb-true}
 use Rattle.language.specs.declared.program.SimpleType.{SimpleType}
 use Rattle.language.specs.declared.program.SimpleType.TheVariants.{Num, To}
@@ -68,20 +67,22 @@ module _ {G : Type 0} (a : Ghosts G) (laws : Laws a.nil a.unit a.plus a.times a.
         (λ k. same_type a (meant (is k)) (meant (is' k)))
         ∙ (λ k. same_grade a (get_or list g a.nil) (get_or list h a.nil) && (same_type a (there A o.from_there k) (there C o'.from_there k) && same_type a (there B o.to_there k) (there D o'.to_there k)))
 
-    -- the domains differ, or the results decide
-    pub domains_differ : (A B C D : ℕ) {r : Bool} {x y : SimpleType} → r ≡ false → x ≡ get_or types A Num → y ≡ get_or types C Num → r ≡ same_type a (meant x) (meant y) → false ≡ (same_type a (meant_at A) (meant_at C) && same_type a (meant_at B) (meant_at D))
-    domains_differ A B C D no' ex ey e = ap (λ b. b && same_type a (meant_at B) (meant_at D)) (sym no' ∙ e ∙ (λ k. same_type a (meant (ex k)) (meant (ey k))))
+    -- two function types, by the test b of their grades
+    pub arrows_tested : (l r : SimpleType) {g h A B C D : ℕ} → l ≡ To g A B → r ≡ To h C D → type_sound 256 (length types) l ≡ true → type_sound 256 (length types) r ≡ true → (p q : G) (b : Bool) → p ≡ get_or list g a.nil → q ≡ get_or list h a.nil → Decides b (p ≡ q) → (b && (same_type a (meant_at A) (meant_at C) && same_type a (meant_at B) (meant_at D))) ≡ same_type a (meant l) (meant r)
+    arrows_tested l r {g} {h} {A} {B} {C} {D} is is' s s' p q b left right decides =
+        let tested = grade_decided b p q decides ∙ (λ k. same_grade a (left k) (right k)) in
+        ap (λ x. x && (same_type a (meant_at A) (meant_at C) && same_type a (meant_at B) (meant_at D))) tested ∙ sym (same_arrows l r is is' s s')
 
-    pub results_decide : (A B C D : ℕ) {r q : Bool} {x y v w : SimpleType} → r ≡ true → x ≡ get_or types A Num → y ≡ get_or types C Num → r ≡ same_type a (meant x) (meant y) → v ≡ get_or types B Num → w ≡ get_or types D Num → q ≡ same_type a (meant v) (meant w) → q ≡ (same_type a (meant_at A) (meant_at C) && same_type a (meant_at B) (meant_at D))
-    results_decide A B C D yes' ex ey e ev ew f =
-        f ∙ (λ k. same_type a (meant (ev k)) (meant (ew k))) ∙ ap (λ b. b && same_type a (meant_at B) (meant_at D)) (sym yes' ∙ e ∙ (λ k. same_type a (meant (ex k)) (meant (ey k))))
+    -- two types of the table, by the test of what was read of it
+    pub parts_tested : (A C : ℕ) {b : Bool} {x y : SimpleType} → x ≡ get_or types A Num → y ≡ get_or types C Num → b ≡ same_type a (meant x) (meant y) → b ≡ same_type a (meant_at A) (meant_at C)
+    parts_tested A C left right tested = tested ∙ (λ k. same_type a (meant (left k)) (meant (right k)))
 
-    -- two function types, by the test of their grades p and q and of the rest
-    pub arrows_by : (l r : SimpleType) {g h A B C D : ℕ} → l ≡ To g A B → r ≡ To h C D → type_sound 256 (length types) l ≡ true → type_sound 256 (length types) r ≡ true → 256 ≤ length list → (p q : G) (b : Bool) → p ≡ get_or list g p → q ≡ get_or list h q → Decides b (p ≡ q) → {b' rest : Bool} → b ≡ b' → rest ≡ (same_type a (meant_at A) (meant_at C) && same_type a (meant_at B) (meant_at D)) → (b' && rest) ≡ same_type a (meant l) (meant r)
-    arrows_by l r {g} {h} {A} {B} {C} {D} is is' s s' long p q b ep eq decides came f =
-        let o = arrow_sound (length types) g A B (ap (type_sound 256 (length types)) (sym is) ∙ s) in
-        let o' = arrow_sound (length types) h C D (ap (type_sound 256 (length types)) (sym is') ∙ s') in
-        let left = get_or_read list g p (omega (arith, o.grade_there)) ep a.nil in
-        let right = get_or_read list h q (omega (arith, o'.grade_there)) eq a.nil in
-        let tested = sym came ∙ grade_decided b p q decides ∙ (λ k. same_grade a (left k) (right k)) in
-        (λ k. tested k && f k) ∙ sym (same_arrows l r is is' s s')
+-- the tests of three parts: the last one decides, or one of the others
+pub last_decides : (b d r x y : Bool) → b ≡ true → d ≡ true → d ≡ x → r ≡ y → r ≡ (b && (x && y))
+last_decides b d r x y first second is last = last ∙ sym (λ k. first k && ((sym is ∙ second) k && y))
+
+pub second_decides : (b d x y : Bool) → b ≡ true → d ≡ false → d ≡ x → d ≡ (b && (x && y))
+second_decides b d x y first second is = second ∙ sym (λ k. first k && ((sym is ∙ second) k && y))
+
+pub first_decides : (b r : Bool) → b ≡ false → b ≡ (b && r)
+first_decides b r first = first ∙ sym (ap (λ x. x && r) first)

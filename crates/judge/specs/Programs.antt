@@ -3,11 +3,12 @@ use Rattle.std.specs.Prelude.{ℕ, ◌-◌, cond, ◌||◌, List, [], ◌++◌, 
 use Rattle.tokens.specs.declared.refusal.Fault.{Fault}
 use Rattle.tokens.specs.declared.refusal.Refusal.TheVariants.{ShortList, NoProgram, AlreadyJudged}
 use Rattle.tokens.specs.Tokens.{fault}
-use Rattle.language.specs.Reading.{Tables}
+use Rattle.language.specs.Reading.{Tables, tables_of}
 use Rattle.grades.specs.declared.algebra.Algebra.{Ghosts}
 use Rattle.grammar.specs.Syntax.{Rule}
 use Rattle.grammar.specs.Recovering.{rule_in}
 use Rattle.typing.specs.Judging.{rule_judged}
+use Rattle.judge.specs.declared.graded.GradedRule.{GradedRule}
 use Rattle.judge.specs.declared.verdict.Verdict.{Verdict}
 use Rattle.judge.specs.declared.verdict.Verdict.TheVariants.{Accepted, Refused}
 
@@ -24,6 +25,9 @@ module _ {G : Type 0} (a : Ghosts G) where
   -- the rule that stands in the tables, with the grades of the list; names are told apart by their places
   abbrev pub rule_of : Tables → List G → Rule G
   rule_of t list = rule_in a.nil [] list t
+
+  abbrev pub graded_rule : GradedRule G → Rule G
+  graded_rule p = rule_of (tables_of p.rule.now.program) p.grades.now
 
   -- usages, and zeros behind them to the 2,592nd place; the places beyond are as they were
   abbrev pub reported : List G → List G → List G

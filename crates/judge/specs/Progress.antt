@@ -3,39 +3,51 @@ use Rattle.std.specs.Prelude.{◌≡◌, ℕ, ◌+◌, ◌<◌, ◌≤◌, true,
 use Rattle.tokens.specs.declared.refusal.Fault.{Fault}
 use Rattle.language.specs.declared.program.SimpleType.{SimpleType}
 use Rattle.language.specs.declared.program.SimpleType.TheVariants.{Num}
+use Rattle.language.specs.declared.program.Term.{Term}
 use Rattle.language.specs.Tables.{type_sound}
-use Rattle.language.specs.Reading.{Tables, ◌then◌}
+use Rattle.language.specs.Growth.{TermFits}
+use Rattle.language.specs.Reading.{tables_of, ◌then◌}
 use Rattle.grammar.specs.Syntax.{Ty, Tm}
 use Rattle.grammar.specs.Closing.{needed, nesting, functions}
 use Rattle.grammar.specs.Storing.{place_of}
 use Rattle.grades.specs.declared.algebra.Algebra.{Ghosts}
-use Rattle.typing.specs.Judging.{Judgement, judged, number}
-use Rattle.judge.specs.declared.context.Context.{Context}
+use Rattle.typing.specs.Judging.{Judgement, judged, number, both}
+use Rattle.judge.specs.declared.graded.GradedRule.{GradedRule}
+use Rattle.judge.specs.declared.table.TypeTable.{TypeTable}
 use Rattle.judge.specs.Newest.{newest}
-use Rattle.judge.specs.Meaning.{type_in}
+use Rattle.judge.specs.Meaning.{type_in, part, node_at}
 
--- the term can be judged: its grades are there, the table of types begins with those of the program, the context has
--- types of the program, and there is room for its names, its functions inside one another and their results
-pub record Ready {G : Type 0} (list : List G) (t : Tables) (types : List SimpleType) (context : Context) (u : Tm G) : Type 0 where
-  pub long : 256 ≤ length list
+-- A context is the types of the open binders, the innermost first.
+
+-- the term can be judged: the table of types begins with those of the program, the context has types of the program,
+-- and there is room for its names, its functions inside one another and their results
+pub record Ready {G : Type 0} (p : GradedRule G) (context : List SimpleType) (types : TypeTable) (u : Tm G) : Type 0 where
   pub added : List SimpleType
-  pub begins : types ≡ t.types ++ added
-  pub sound : (i : ℕ) → i < context.count → type_sound 256 (length t.types) (slice_index_or context.types i Num) ≡ true
-  pub names : needed u ≤ context.count
-  pub levels : context.count + nesting u ≤ 32
-  pub room : length types + functions u ≤ 1024
+  pub begins : types.types.items ≡ p.rule.now.program.types.items ++ added
+  pub sound : (i : ℕ) → i < length context → type_sound 256 (length p.rule.now.program.types.items) (slice_index_or context i Num) ≡ true
+  pub names : needed u ≤ length context
+  pub levels : length context + nesting u ≤ 32
+  pub room : length types.types.items + functions u ≤ 1024
+
+-- the same of a term that stands in the tables of the rule, and of the term number i
+pub record ReadyTerm {G : Type 0} (nil : G) (p : GradedRule G) (context : List SimpleType) (types : TypeTable) (u : Term) : Type 0 where
+  pub there : TermFits (tables_of p.rule.now.program) u
+  pub ready : Ready p context types (part nil p u)
+
+pub record ReadyNode {G : Type 0} (nil : G) (p : GradedRule G) (context : List SimpleType) (types : TypeTable) (i : ℕ) : Type 0 where
+  pub there : i < length p.rule.now.program.nodes.items
+  pub ready : Ready p context types (node_at nil p i)
 
 -- the table of types has grown by so many at most
-pub record Grown (most : ℕ) (before after : List SimpleType) : Type 0 where
+pub record Grown (most : ℕ) (before after : TypeTable) : Type 0 where
   pub added : List SimpleType
-  pub is : after ≡ before ++ added
-  pub few : length after ≤ length before + most
+  pub is : after.types.items ≡ before.types.items ++ added
+  pub few : length after.types.items ≤ length before.types.items + most
 
 -- what the code's values stand for
 module _ {G : Type 0} (nil : G) (list : List G) where
-  -- the types of the open binders, the innermost first
-  abbrev pub context_types : List SimpleType → Context → List (Ty G)
-  context_types types c = map (type_in nil list types) (newest Num c.types c.count)
+  abbrev pub context_types : List SimpleType → List SimpleType → List (Ty G)
+  context_types types context = map (type_in nil list types) context
 
   -- a type, and the usages of the open binders
   abbrev pub judgement_of : List SimpleType → ℕ → List G → Result SimpleType Fault → Result (Judgement G) Fault
@@ -46,17 +58,24 @@ abbrev pub usage_of : {G : Type 0} → G → ℕ → List G → Result (Unit {0}
 usage_of nil n u (Ok _) = Ok (newest nil u n)
 usage_of nil n u (Err f) = Err f
 
-module _ {G : Type 0} (a : Ghosts G) (list : List G) where
+module _ {G : Type 0} (a : Ghosts G) (p : GradedRule G) (context : List SimpleType) where
   -- r and v are the judgement of the term u, with which the table of types has grown
-  pub record Judges (c : Context) (u : Tm G) (before after : List SimpleType) (r : Result SimpleType Fault) (v : List G) : Type 0 where
-    pub answer : judgement_of a.nil list after c.count v r ≡ judged a (context_types a.nil list before c) u
-    pub grows : IfOk r (λ s. Grown (functions u) before after × (type_sound 256 (length after) s ≡ true))
+  pub record Judges (u : Tm G) (before after : TypeTable) (r : Result SimpleType Fault) (v : List G) : Type 0 where
+    pub answer : judgement_of a.nil p.grades.now after.types.items (length context) v r ≡ judged a (context_types a.nil p.grades.now before.types.items context) u
+    pub grows : IfOk r (λ s. Grown (functions u) before after × (type_sound 256 (length after.types.items) s ≡ true))
 
   -- the usage of the term u, which has to be a number
-  abbrev pub number_judged : Context → List SimpleType → Tm G → Result (List G) Fault
-  number_judged c types u = judged a (context_types a.nil list types c) u then number (place_of u)
+  abbrev pub number_judged : TypeTable → Tm G → Result (List G) Fault
+  number_judged types u = judged a (context_types a.nil p.grades.now types.types.items context) u then number (place_of u)
 
   -- r and v are the usage that is due, with which the table of types has grown by so many at most
-  pub record Uses (c : Context) (due : Result (List G) Fault) (most : ℕ) (before after : List SimpleType) (r : Result (Unit {0}) Fault) (v : List G) : Type 0 where
-    pub answer : usage_of a.nil c.count v r ≡ due
+  pub record Uses (due : Result (List G) Fault) (most : ℕ) (before after : TypeTable) (r : Result (Unit {0}) Fault) (v : List G) : Type 0 where
+    pub answer : usage_of a.nil (length context) v r ≡ due
     pub grows : IfOk r (λ _. Grown most before after)
+
+  -- that of one number, and of two
+  abbrev pub JudgesNumber : Tm G → TypeTable → TypeTable → Result (Unit {0}) Fault → List G → Type 0
+  JudgesNumber u before = Uses (number_judged before u) (functions u) before
+
+  abbrev pub JudgesNumbers : Tm G → Tm G → TypeTable → TypeTable → Result (Unit {0}) Fault → List G → Type 0
+  JudgesNumbers s u before = Uses (both a (number_judged before s) (number_judged before u)) (functions s + functions u) before

@@ -1,8 +1,8 @@
 // The judge: a recursion over the terms of a program, and its verdict on a rule.
 #![tactic(auto)]
 
-mod combination;
-mod context;
+mod entries;
+mod graded;
 pub mod rule;
 mod table;
 mod terms;

@@ -1,64 +1,72 @@
 // Judging a rule: its run term, the answer's type, and the inputs in order.
-ghost use Rattle.std.specs.Prelude.{◌≡◌, ◌-◌, ◌<◌, ◌≤◌, ◌++◌, length, replicate};
+ghost use Rattle.std.specs.Prelude.{◌≡◌, ◌+◌, ◌-◌, ◌≤◌, ◌++◌, length, replicate};
+ghost use Rattle.language.specs.declared.program.SimpleType.TheVariants.{Num};
 ghost use Rattle.language.specs.Reading.{tables_of};
+ghost use Rattle.language.specs.Scopes.{scope_items};
 ghost use Rattle.typing.specs.Judging.{inputs_covered, rule_judged};
-ghost use Rattle.judge.specs.Programs.{rule_of, usages_of, program_judged};
+ghost use Rattle.judge.specs.Meaning.{run_node};
+ghost use Rattle.judge.specs.Progress.{Ready, Judges};
+ghost use Rattle.judge.specs.Programs.{graded_rule, usages_of, program_judged};
 
-use crate::context::Context;
+use crate::graded::GradedRule;
 use crate::table::TypeTable;
-use crate::terms::{judge_term, refused};
 use crate::verdict::Verdict;
 use grades::Algebra;
 use grammar::ClosedProgram;
-use language::{Binder, Program, SimpleType};
+pub use language::GRADES;
+use language::{Scope, SimpleType};
 use tokens::{Fault, Refusal};
 
-// The grade list needs at least so many places.
-pub const GRADES: usize = 256;
-
-// So does the work list.
+// The work list needs at least so many places.
 pub const WORK: usize = 2592;
 
-// Each input's declared grade covers its usage, in the order of the inputs.
-fn cover_inputs<G: Algebra>(program: &Program, grades: &[G], usages: &[G]) -> Result<(), Fault>
-    requires long { 256 ≤ length grades.now }
-    requires each { length usages.now ≡ program.now.inputs }
-    ensures { result ≡ inputs_covered G.Algebra (rule_of G.Algebra (tables_of program.now) grades.now) usages.now }
-{
-    for i in 0..program.inputs {
-        let Binder {
-            place,
-            len: _,
-            grade,
-        } = program.binders[i];
-        if !grades[grade].covers(usages[i]) {
-            return refused(Refusal::NotCovered, place);
+impl<G: Algebra> GradedRule<'_, G> {
+    // Each input's declared grade covers its usage, in the order of the inputs.
+    fn cover_inputs(&self, usages: &[G]) -> Result<(), Fault>
+        requires { length usages.now ≡ self.now.rule.now.program.inputs }
+        ensures { result ≡ inputs_covered G.Algebra (graded_rule G.Algebra self.now) usages.now }
+    {
+        for (binder, usage) in self.rule.program.binders.iter().zip(usages) {
+            if !self.grade(binder.grade).covers(*usage) {
+                return Err(Refusal::NotCovered.at(binder.place));
+            }
         }
+        Ok(())
     }
-    Ok(())
-}
 
-// The usages of the inputs, the outermost first.
-fn judge_rule<G: Algebra>(
-    rule: &ClosedProgram,
-    grades: &[G],
-    types: &mut TypeTable,
-    usage: &mut [G; 32],
-) -> Result<(), Fault>
-    requires long { 256 ≤ length grades.now }
-    requires there { 0 < length (tables_of rule.now.program).nodes }
-    ensures { usages_of usage.new rule.now.program.inputs result ≡ rule_judged G.Algebra (rule_of G.Algebra (tables_of rule.now.program) grades.now) }
-{
-    let program = &rule.program;
-    types.fill(program);
-    let context = Context::inputs(program.inputs);
-    let run = program.nodes.len() - 1;
-    match judge_term(program, grades, types, &context, run, usage)? {
-        SimpleType::Num => {
-            let used = &usage[..];
-            cover_inputs(program, grades, &used[0..program.inputs])
+    // The type of the run term, with so many more inputs open around it, which are numbers.
+    fn judge_run(
+        &self,
+        types: &mut TypeTable,
+        context: &Scope<'_, SimpleType>,
+        inputs: usize,
+        usage: &mut [G; 32],
+    ) -> Result<SimpleType, Fault>
+        requires { Ready self.now (replicate inputs Num ++ scope_items context.now) types.old (run_node G.Algebra.nil self.now) }
+        ensures { Judges G.Algebra self.now (replicate inputs Num ++ scope_items context.now) (run_node G.Algebra.nil self.now) types.old types.new result usage.new }
+    {
+        if inputs == 0 {
+            return self.judge_term(types, context, self.rule.program.nodes.len() - 1, usage);
         }
-        SimpleType::To { .. } => refused(Refusal::AnswerNotNum, program.nodes[run].place),
+        let inner = Scope::Inside(SimpleType::Num, &*context);
+        self.judge_run(types, &inner, inputs - 1, usage)
+    }
+
+    // The usages of the inputs, the outermost first.
+    fn judge_rule(&self, types: &mut TypeTable, usage: &mut [G; 32]) -> Result<(), Fault>
+        ensures { usages_of usage.new self.now.rule.now.program.inputs result ≡ rule_judged G.Algebra (graded_rule G.Algebra self.now) }
+    {
+        let program = &self.rule.program;
+        types.fill(program);
+        match self.judge_run(types, &Scope::Empty, program.inputs, usage)? {
+            SimpleType::Num => {
+                let (usages, _) = usage.split_at(program.inputs);
+                self.cover_inputs(usages)
+            }
+            SimpleType::To { .. } => {
+                Err(Refusal::AnswerNotNum.at(self.place(program.nodes.len() - 1)))
+            }
+        }
     }
 }
 
@@ -68,13 +76,9 @@ fn report<G: Algebra>(work: &mut [G], usages: &[G])
     requires few { length usages.now ≤ 2592 }
     ensures { work.new ≡ usages.now ++ replicate (2592 - length usages.now) G.Algebra.nil }
 {
-    for i in 0..work.len() {
-        work[i] = if i < usages.len() {
-            usages[i]
-        } else {
-            G::zero()
-        };
-    }
+    let (front, behind) = work.split_at_mut(usages.len());
+    front.copy_from_slice(usages);
+    behind.fill_with(|| G::zero());
 }
 
 // Judges the rule, unless a list is too short, there is no rule, or it is judged already. The verdict is kept, and the
@@ -89,27 +93,25 @@ pub fn judge_program<G: Algebra>(
     ensures { (result, verdict.new, work.new) ≡ program_judged G.Algebra (tables_of rule.now.program) grades.now verdict.old work.old }
 {
     if grades.len() < GRADES || work.len() < WORK {
-        return refused(Refusal::ShortList, 0);
+        return Err(Refusal::ShortList.at(0));
     }
     if rule.program.nodes.is_empty() {
-        return refused(Refusal::NoProgram, 0);
+        return Err(Refusal::NoProgram.at(0));
     }
     if verdict.is_some() {
-        return refused(Refusal::AlreadyJudged, 0);
+        return Err(Refusal::AlreadyJudged.at(0));
     }
+    let graded = GradedRule { rule, grades };
     let mut usage = [G::zero(); 32];
-    let list = &mut work[0..WORK];
-    match judge_rule(rule, grades, types, &mut usage) {
+    match graded.judge_rule(types, &mut usage) {
         Ok(()) => {
             *verdict = Some(Verdict::Accepted);
-            let used = &usage[..];
-            report(list, &used[0..rule.program.inputs]);
+            report(&mut work[..WORK], &usage[..rule.program.inputs]);
             Ok(())
         }
         Err(fault) => {
             *verdict = Some(Verdict::Refused);
-            let used = &usage[..];
-            report(list, &used[0..0]);
+            report(&mut work[..WORK], &usage[..0]);
             Err(fault)
         }
     }

@@ -1,13 +1,10 @@
-// How the table of types is filled, and how types are compared.
-ghost use Rattle.std.specs.Prelude.{◌≡◌, ◌<◌, ◌≤◌, true, [], ◌∷◌, ◌++◌, length, IfOk, slice_index_or};
+// How the table of types is made, filled and read.
+ghost use Rattle.std.specs.Prelude.{◌≡◌, ◌<◌, true, [], ◌∷◌, ◌++◌, length, IfOk, slice_index_or};
 ghost use Rattle.language.specs.declared.program.SimpleType.TheVariants.{Num};
 ghost use Rattle.language.specs.Tables.{type_sound};
-ghost use Rattle.typing.specs.Judging.{same_type};
-ghost use Rattle.judge.specs.Meaning.{type_in};
 
 use crate::table::TypeTable;
-use grades::Algebra;
-use language::{Program, SimpleType};
+use language::{Program, SimpleType, push_entry};
 use std::alloc::{AllocError, Global};
 
 // Room for the types of the largest rule, and for as many functions.
@@ -27,8 +24,8 @@ impl TypeTable {
         ensures { self.new.types.items ≡ program.now.types.items }
     {
         self.types.clear();
-        for i in 0..program.types.len() {
-            self.add(program.types[i]);
+        for simple in &program.types {
+            self.add(*simple);
         }
     }
 
@@ -39,9 +36,7 @@ impl TypeTable {
         ensures index { result ≡ length self.old.types.items }
         ensures after { self.new.types.items ≡ self.old.types.items ++ simple ∷ [] }
     {
-        let index = self.types.len();
-        self.types.push_reserved(simple);
-        index
+        push_entry(&mut self.types, simple)
     }
 
     pub(crate) fn get(&self, i: usize) -> SimpleType
@@ -49,34 +44,5 @@ impl TypeTable {
         ensures { result ≡ slice_index_or self.now.types.items i Num }
     {
         self.types[i]
-    }
-
-    // Whether the two types are the same, by the grades of the list.
-    pub(crate) fn same<G: Algebra>(&self, grades: &[G], left: SimpleType, right: SimpleType) -> bool
-        requires long { 256 ≤ length grades.now }
-        requires left { type_sound 256 (length self.now.types.items) left ≡ true }
-        requires right { type_sound 256 (length self.now.types.items) right ≡ true }
-        ensures { result ≡ same_type G.Algebra (type_in G.Algebra.nil grades.now self.now.types.items left) (type_in G.Algebra.nil grades.now self.now.types.items right) }
-    {
-        match (left, right) {
-            (SimpleType::Num, SimpleType::Num) => true,
-            (
-                SimpleType::To { grade, from, to },
-                SimpleType::To {
-                    grade: other,
-                    from: domain,
-                    to: result,
-                },
-            ) => {
-                if !grades[grade].same(grades[other]) {
-                    return false;
-                }
-                if !self.same(grades, self.get(from), self.get(domain)) {
-                    return false;
-                }
-                self.same(grades, self.get(to), self.get(result))
-            }
-            _ => false,
-        }
     }
 }

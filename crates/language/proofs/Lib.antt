@@ -1,5 +1,3 @@
-pub mod Scopes
 pub mod Sound
 pub mod Chains
 pub mod Clearing
-pub mod Growth

@@ -2,3 +2,4 @@ pub mod Scopes
 pub mod Tables
 pub mod Reading
 pub mod Growth
+pub mod Readers

@@ -21,7 +21,6 @@ use Rattle.language.specs.declared.heads.TypeHead.TheVariants as type-heads
 use Rattle.language.specs.declared.heads.RuleHead.{RuleHead}
 use Rattle.language.specs.declared.heads.RuleHead.TheVariants as rule-heads
 use Rattle.language.specs.declared.heads.Parsed.{Parsed}
-use Rattle.language.specs.declared.heads.Formed.{Formed}
 use Rattle.language.specs.declared.reader.Bound as reader
 use Rattle.tokens.specs.Keywords.{keyword_of}
 use Rattle.language.specs.Scopes.{find}
@@ -100,16 +99,14 @@ counted depth place t = cond (depth == 0 || nat_le 512 t.words) (Err (fault Limi
 abbrev pub graded : {G : Type 0} → G → ℕ → State G → Read G ℕ
 graded g place s = cond (nat_le 256 s.program.grades) (Err (fault Limit place)) (Ok (s.program.grades, state (with_grade s.program) (slice_set s.list s.program.grades g)))
 
-abbrev pub parsed : ℕ → ℕ → Parsed
-parsed i n = record { index = i; next = n }
+-- a part that was read, with the place after it
+abbrev pub parsed : {X : Type 0} → X → ℕ → Parsed X
+parsed x n = record { value = x; next = n }
 
-abbrev pub formed : Term → ℕ → Formed
-formed t n = record { term = t; next = n }
-
-abbrev pub store_type : {G : Type 0} → SimpleType → ℕ → State G → Read G Parsed
+abbrev pub store_type : {G : Type 0} → SimpleType → ℕ → State G → Read G (Parsed ℕ)
 store_type t next s = Ok (parsed (length s.program.types) next, changed (λ p. with_type p t) s)
 
-abbrev pub store_term : {G : Type 0} → ℕ → Term → ℕ → State G → Read G Parsed
+abbrev pub store_term : {G : Type 0} → ℕ → Term → ℕ → State G → Read G (Parsed ℕ)
 store_term place t next s = Ok (parsed (length s.program.nodes) next, changed (λ p. with_node p (record { term = t; place = place })) s)
 
 -- `call`, `add` or `sub` with its two parts
@@ -226,14 +223,14 @@ bound_of (Err f) = Err f
 
 module _ {G : Type 0} (reading : List ℕ → Option (G × ℕ)) (text : List ℕ) where
   -- the token after a binder's name is its grade, or the binder is bare
-  abbrev pub grade_or : G → ℕ → ℕ → Lexeme G → ℕ → ℕ → State G → Read G Parsed
+  abbrev pub grade_or : G → ℕ → ℕ → Lexeme G → ℕ → ℕ → State G → Read G (Parsed ℕ)
   grade_or bare place behind (word w) at next s = graded bare place s then λ (i, s). Ok (parsed i behind, s)
   grade_or bare place behind (number w z) at next s = graded bare place s then λ (i, s). Ok (parsed i behind, s)
   grade_or bare place behind (grade w g) at next s = graded g at s then λ (i, s). Ok (parsed i next, s)
   grade_or bare place behind end at next s = graded bare place s then λ (i, s). Ok (parsed i behind, s)
 
   -- the grade of the binder whose name stands at `place` and ends at `behind`
-  abbrev pub binder_grade : G → ℕ → ℕ → State G → Read G Parsed
+  abbrev pub binder_grade : G → ℕ → ℕ → State G → Read G (Parsed ℕ)
   binder_grade bare place behind s = token_at reading text behind then λ u. grade_or bare place behind u.token u.place u.next s
 
   -- a binder: a name and a grade, which may be left out
@@ -242,10 +239,10 @@ module _ {G : Type 0} (reading : List ℕ → Option (G × ℕ)) (text : List �
       token_at reading text at then λ t.
       name_of t.token t.place then λ w.
       binder_grade bare t.place t.next s then λ (g, s).
-      Ok (bound w (record { place = t.place; len = length w; grade = g.index }) g.next, s)
+      Ok (bound w (record { place = t.place; len = length w; grade = g.value }) g.next, s)
 
   -- the rest of a type, by a reader of its parts
-  abbrev pub type_rest : (ℕ → State G → Read G Parsed) → TypeHead → ℕ → State G → Read G Parsed
+  abbrev pub type_rest : (ℕ → State G → Read G (Parsed ℕ)) → TypeHead → ℕ → State G → Read G (Parsed ℕ)
   type_rest part type-heads.Num next s = store_type Num next s
   type_rest part type-heads.To next s =
       token_at reading text next then λ t.
@@ -253,9 +250,9 @@ module _ {G : Type 0} (reading : List ℕ → Option (G × ℕ)) (text : List �
       graded g t.place s then λ (i, s).
       part t.next s then λ (a, s).
       part a.next s then λ (b, s).
-      store_type (To i a.index b.index) b.next s
+      store_type (To i a.value b.value) b.next s
 
-  abbrev pub type_by : (ℕ → State G → Read G Parsed) → ℕ → ℕ → State G → Read G Parsed
+  abbrev pub type_by : (ℕ → State G → Read G (Parsed ℕ)) → ℕ → ℕ → State G → Read G (Parsed ℕ)
   type_by part depth at s =
       token_at reading text at then λ t.
       type_head t.token t.place then λ h.
@@ -263,57 +260,57 @@ module _ {G : Type 0} (reading : List ℕ → Option (G × ℕ)) (text : List �
       type_rest part h t.next (state p s.list)
 
   -- no part is read where no depth is left: `counted` has refused the word before its parts are asked for
-  abbrev pub too_deep : ℕ → State G → Read G Parsed
+  abbrev pub too_deep : ℕ → State G → Read G (Parsed ℕ)
   too_deep at s = Err (fault Limit at)
 
   -- the types inside one at which so many levels of depth are left
-  abbrev pub type_inside : ℕ → ℕ → State G → Read G Parsed
+  abbrev pub type_inside : ℕ → ℕ → State G → Read G (Parsed ℕ)
   type_inside zero at s = too_deep at s
   type_inside (suc d) at s = type_by (type_inside d) d at s
 
   -- the type at a place, with so many levels of depth left
-  abbrev pub simple_type : ℕ → ℕ → State G → Read G Parsed
+  abbrev pub simple_type : ℕ → ℕ → State G → Read G (Parsed ℕ)
   simple_type d at s = type_by (type_inside d) d at s
 
   -- what follows the first token of a term, by readers of its types and parts
-  abbrev pub term_parts : G → (ℕ → State G → Read G Parsed) → (List (List ℕ) → ℕ → State G → Read G Parsed) → List (List ℕ) → TermHead → ℕ → State G → Read G Formed
-  term_parts one type part scope (heads.Name k) next s = Ok (formed (Name k) next, s)
-  term_parts one type part scope (heads.Number z) next s = Ok (formed (Number z) next, s)
+  abbrev pub term_parts : G → (ℕ → State G → Read G (Parsed ℕ)) → (List (List ℕ) → ℕ → State G → Read G (Parsed ℕ)) → List (List ℕ) → TermHead → ℕ → State G → Read G (Parsed Term)
+  term_parts one type part scope (heads.Name k) next s = Ok (parsed (Name k) next, s)
+  term_parts one type part scope (heads.Number z) next s = Ok (parsed (Number z) next, s)
   term_parts one type part scope heads.Fn next s =
       binder one next s then λ (n, s).
       type n.next (changed (λ p. with_binder p n.entry) s) then λ (a, t).
       part (n.name ∷ scope) a.next t then λ (b, u).
-      Ok (formed (Fn (length s.program.binders) a.index b.index) b.next, u)
+      Ok (parsed (Fn (length s.program.binders) a.value b.value) b.next, u)
   term_parts one type part scope (heads.Binary form) next s =
       part scope next s then λ (a, s).
       part scope a.next s then λ (b, s).
-      Ok (formed (binary form a.index b.index) b.next, s)
+      Ok (parsed (binary form a.value b.value) b.next, s)
   term_parts one type part scope heads.Half next s =
       part scope next s then λ (a, s).
-      Ok (formed (Half a.index) a.next, s)
+      Ok (parsed (Half a.value) a.next, s)
   term_parts one type part scope heads.Less next s =
       part scope next s then λ (a, s).
       part scope a.next s then λ (b, s).
       part scope b.next s then λ (c, s).
       part scope c.next s then λ (d, s).
-      Ok (formed (Less a.index b.index c.index d.index) d.next, s)
+      Ok (parsed (Less a.value b.value c.value d.value) d.next, s)
 
   -- a term is stored behind its parts
-  abbrev pub term_by : G → (ℕ → State G → Read G Parsed) → (List (List ℕ) → ℕ → State G → Read G Parsed) → ℕ → List (List ℕ) → ℕ → State G → Read G Parsed
+  abbrev pub term_by : G → (ℕ → State G → Read G (Parsed ℕ)) → (List (List ℕ) → ℕ → State G → Read G (Parsed ℕ)) → ℕ → List (List ℕ) → ℕ → State G → Read G (Parsed ℕ)
   term_by one type part depth scope at s =
       token_at reading text at then λ t.
       term_head scope t.token t.place then λ h.
       counted depth t.place s.program then λ (_, p).
       term_parts one type part scope h t.next (state p s.list) then λ (f, s).
-      store_term t.place f.term f.next s
+      store_term t.place f.value f.next s
 
   -- the terms inside one at which so many levels of depth are left
-  abbrev pub term_inside : G → ℕ → List (List ℕ) → ℕ → State G → Read G Parsed
+  abbrev pub term_inside : G → ℕ → List (List ℕ) → ℕ → State G → Read G (Parsed ℕ)
   term_inside one zero scope at s = too_deep at s
   term_inside one (suc d) scope at s = term_by one (type_inside d) (term_inside one d) d scope at s
 
   -- the term at a place, with so many levels of depth left
-  abbrev pub term : G → ℕ → List (List ℕ) → ℕ → State G → Read G Parsed
+  abbrev pub term : G → ℕ → List (List ℕ) → ℕ → State G → Read G (Parsed ℕ)
   term one d scope at s = term_by one (type_inside d) (term_inside one d) d scope at s
 
   -- the run term, with which the text ends

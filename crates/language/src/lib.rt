@@ -4,10 +4,13 @@
 pub mod heads;
 pub mod program;
 pub mod reader;
+mod reading;
 pub mod scope;
 pub mod store;
 pub mod tables;
 
 pub use program::{Binder, Node, SimpleType, Term};
 pub use reader::read_program;
-pub use tables::Program;
+pub use scope::Scope;
+pub use store::push_entry;
+pub use tables::{GRADES, Program};

@@ -1,7 +1,7 @@
 // What a rule is stored as: binders, types and terms, each in a table of its own, which refer to each other by index.
 
 // A binder: its name is `len` bytes of the text from `place` on, and its grade stands at `grade` in the grade list.
-#[derive(Clone, Copy)]
+#[derive(Clone, Copy, PartialEq, Eq, Debug)]
 pub struct Binder {
     pub place: usize,
     pub len: usize,
@@ -9,7 +9,7 @@ pub struct Binder {
 }
 
 // A type: numbers, or functions from `from`, used as the grade at `grade` says, to `to`.
-#[derive(Clone, Copy)]
+#[derive(Clone, Copy, PartialEq, Eq, Debug)]
 pub enum SimpleType {
     Num,
     To {
@@ -20,7 +20,7 @@ pub enum SimpleType {
 }
 
 // A term. A name is the number of open binders that are passed from the innermost outwards.
-#[derive(Clone, Copy)]
+#[derive(Clone, Copy, PartialEq, Eq, Debug)]
 pub enum Term {
     Name(usize),
     Number(i32),
@@ -53,7 +53,7 @@ pub enum Term {
 }
 
 // A term with the place of its first token.
-#[derive(Clone, Copy)]
+#[derive(Clone, Copy, PartialEq, Eq, Debug)]
 pub struct Node {
     pub term: Term,
     pub place: usize,

@@ -1,51 +1,50 @@
-// The names of the open binders.
-ghost use Rattle.std.specs.Prelude.{◌≡◌, ◌+◌, ◌<◌, ◌≤◌, [], ◌∷◌};
-ghost use Rattle.language.specs.Scopes.{open_names, find};
+// What is known of the open binders: their names, or their types.
+ghost use Rattle.std.specs.Prelude.{◌≡◌, ◌^◌, ◌<◌, length, IfSome};
+ghost use Rattle.std.specs.List.{slice_get};
+ghost use Rattle.language.specs.Scopes.{scope_items, open_names, find};
 
-use tokens::same_word;
-
-// The open binders' names, the outermost first: at most eight inputs, and a function around each term of depth 2 to 24.
+// A scope: nothing is open, or one more binder is open inside another scope.
 #[derive(Clone, Copy)]
-pub struct Scope<'a> {
-    names: [&'a [u8]; 32],
-    count: usize,
+pub enum Scope<'a, T> {
+    Empty,
+    Inside(T, &'a Scope<'a, T>),
 }
 
-impl<'a> Scope<'a> {
-    pub(crate) fn empty() -> Scope<'a>
-        ensures names { open_names result ≡ [] }
-        ensures count { result.count ≡ 0 }
+impl<T: Copy> Scope<'_, T> {
+    // How many binders are open.
+    pub fn len(&self) -> usize
+        requires { length (scope_items self.now) < 2 ^ 64 }
+        ensures { result ≡ length (scope_items self.now) }
     {
-        Scope {
-            names: [b""; 32],
-            count: 0,
+        match self {
+            Scope::Empty => 0,
+            Scope::Inside(_, outer) => outer.len() + 1,
         }
     }
 
-    // The scope inside one more binder.
-    pub(crate) fn with(&self, name: &'a [u8]) -> Scope<'a>
-        requires { self.now.count < 32 }
-        ensures names { open_names result ≡ name.now ∷ open_names self.now }
-        ensures count { result.count ≡ self.now.count + 1 }
+    // What is known of the binder that is found `k` binders outwards.
+    pub fn get(&self, k: usize) -> Option<T>
+        ensures { result ≡ slice_get (scope_items self.now) k }
     {
-        let mut inner = *self;
-        inner.names[self.count] = name;
-        inner.count += 1;
-        inner
+        match self {
+            Scope::Empty => None,
+            Scope::Inside(known, _) if k == 0 => Some(*known),
+            Scope::Inside(_, outer) => outer.get(k - 1),
+        }
     }
+}
 
+impl Scope<'_, &[u8]> {
     // How many open binders are passed, from the innermost outwards, to the first of that name.
     pub(crate) fn index_of(&self, name: &[u8]) -> Option<usize>
-        requires { self.now.count ≤ 32 }
-        ensures { result ≡ find name.now (open_names self.now) }
+        requires { length (scope_items self.now) < 2 ^ 64 }
+        ensures index { result ≡ find name.now (open_names self.now) }
+        ensures within { IfSome result (λ k. k < length (scope_items self.now)) }
     {
-        let mut at = self.count;
-        while at > 0 {
-            at -= 1;
-            if same_word(self.names[at], name) {
-                return Some(self.count - 1 - at);
-            }
+        match self {
+            Scope::Empty => None,
+            Scope::Inside(innermost, _) if *innermost == name => Some(0),
+            Scope::Inside(_, outer) => Some(outer.index_of(name)? + 1),
         }
-        None
     }
 }

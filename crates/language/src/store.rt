@@ -1,5 +1,5 @@
 // Storing a rule: the tables are emptied and filled entry by entry, and never take more room.
-ghost use Rattle.std.specs.Prelude.{◌≡◌, ◌+◌, ◌<◌, ◌≤◌, length, IfOk, OnOk};
+ghost use Rattle.std.specs.Prelude.{◌≡◌, ◌+◌, ◌<◌, [], ◌∷◌, ◌++◌, length, IfOk, OnOk, vec_len, vec_capacity};
 ghost use Rattle.language.specs.Reading.{told, tables_of, no_tables, with_binder, with_type, with_node, with_input, with_word, counted};
 ghost use Rattle.language.specs.Growth.{TypeFits, TermFits};
 
@@ -12,6 +12,18 @@ use tokens::{Fault, Refusal};
 const MOST_BINDERS: usize = 520;
 
 const MOST_WORDS: usize = 512;
+
+// Puts one more entry into a table that has room for it, and answers its index.
+pub fn push_entry<T>(table: &mut Vec<T>, entry: T) -> usize
+    requires { vec_len table.old < vec_capacity table.old }
+    ensures index { result ≡ vec_len table.old }
+    ensures items { table.new.items ≡ table.old.items ++ (entry ∷ []) }
+    ensures capacity { vec_capacity table.new ≡ vec_capacity table.old }
+{
+    let index = table.len();
+    table.push_reserved(entry);
+    index
+}
 
 impl Program {
     // An empty program with room for the largest rule.
@@ -49,10 +61,7 @@ impl Program {
         ensures words { OnOk result (tables_of self.new ≡ with_word (tables_of self.old)) }
     {
         if depth == 0 || self.words >= MOST_WORDS {
-            return Err(Fault {
-                refusal: Refusal::Limit,
-                place,
-            });
+            return Err(Refusal::Limit.at(place));
         }
         self.words += 1;
         Ok(depth - 1)
@@ -65,9 +74,7 @@ impl Program {
         ensures index { result ≡ length (tables_of self.old).binders }
         ensures after { tables_of self.new ≡ with_binder (tables_of self.old) binder }
     {
-        let index = self.binders.len();
-        self.binders.push_reserved(binder);
-        index
+        push_entry(&mut self.binders, binder)
     }
 
     // The binder of one more input.
@@ -86,9 +93,7 @@ impl Program {
         ensures index { result ≡ length (tables_of self.old).types }
         ensures after { tables_of self.new ≡ with_type (tables_of self.old) simple }
     {
-        let index = self.types.len();
-        self.types.push_reserved(simple);
-        index
+        push_entry(&mut self.types, simple)
     }
 
     pub(crate) fn add_node(&mut self, node: Node) -> usize
@@ -97,8 +102,6 @@ impl Program {
         ensures index { result ≡ length (tables_of self.old).nodes }
         ensures after { tables_of self.new ≡ with_node (tables_of self.old) node }
     {
-        let index = self.nodes.len();
-        self.nodes.push_reserved(node);
-        index
+        push_entry(&mut self.nodes, node)
     }
 }

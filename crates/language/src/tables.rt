@@ -4,6 +4,11 @@ ghost use Rattle.language.specs.Tables.{BindersSound, TypesSound, NodesSound};
 
 use crate::program::{Binder, Node, SimpleType};
 
+// How many grades the grade list has room for.
+pub const GRADES: usize = 256;
+
+// A session takes no memory after it is made, so a rule lies in tables whose entries refer to each other by index, and
+// not in a tree of boxes.
 #[derive(Drop)]
 pub struct Program {
     // the inputs in order, and then the functions' binders in the order of the text
@@ -16,18 +21,18 @@ pub struct Program {
     pub grades: usize,
     pub words: usize,
     // room for the largest rule
-    ghost broom: { 520 ≤ vec_capacity binders },
-    ghost troom: { 512 ≤ vec_capacity types },
-    ghost nroom: { 512 ≤ vec_capacity nodes },
+    ghost room_for_binders: { 520 ≤ vec_capacity binders },
+    ghost room_for_types: { 512 ≤ vec_capacity types },
+    ghost room_for_nodes: { 512 ≤ vec_capacity nodes },
     // each type and term stands for a word that was counted, and each binder for an input or a word
     ghost counted: { length nodes.items + length types.items ≤ words },
     ghost named: { length binders.items ≤ inputs + words },
     ghost declared: { inputs ≤ length binders.items },
-    ghost inputsfew: { inputs ≤ 8 },
-    ghost gradesfew: { grades ≤ 256 },
-    ghost wordsfew: { words ≤ 512 },
+    ghost few_inputs: { inputs ≤ 8 },
+    ghost few_grades: { grades ≤ 256 },
+    ghost few_words: { words ≤ 512 },
     // every stored index lies below its table's count, and types and terms refer to older ones only
-    ghost bsound: { BindersSound grades binders.items },
-    ghost tsound: { TypesSound grades types.items },
-    ghost nsound: { NodesSound (length binders.items) (length types.items) nodes.items },
+    ghost binders_sound: { BindersSound grades binders.items },
+    ghost types_sound: { TypesSound grades types.items },
+    ghost nodes_sound: { NodesSound (length binders.items) (length types.items) nodes.items },
 }

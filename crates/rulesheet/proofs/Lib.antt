@@ -1,4 +1,2 @@
 mod Cuts
-mod Grades
 mod Numbers
-mod Prints

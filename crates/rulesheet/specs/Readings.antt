@@ -1,6 +1,6 @@
 -- The numbers that a line writes. Assumes nothing.
-use Rattle.std.specs.Prelude.{ℕ, Bool, true, false, cond, ◌||◌, List, [], ◌∷◌, ◌++◌, drop, ℤ, Some, None, Option, ◌==◌, slice_index}
-use Rattle.text.specs.Decimals.{integer_of}
+use Rattle.std.specs.Prelude.{ℕ, Bool, cond, ◌||◌, List, [], ◌∷◌, ◌++◌, ℤ, Some, None, Option, ◌==◌}
+use Rattle.text.specs.Decimals.{signed_integer}
 
 -- a space or a carriage return
 abbrev pub blank : ℕ → Bool
@@ -8,16 +8,7 @@ blank b = b == 32 || b == 13
 
 -- the number of 32 bits that a word writes: digits, `-` before them or not, no leading zero and no `-0`
 abbrev pub reading : List ℕ → Option ℤ
-reading w = cond (slice_index w 0 == 45) (integer_of (drop 1 w) true) (integer_of w false)
-
--- whether a word is a number, and the numbers with it behind them; no byte adds none
-abbrev pub added_number : List ℤ → Option ℤ → Bool × List ℤ
-added_number zs None = (false, zs)
-added_number zs (Some z) = (true, zs ++ z ∷ [])
-
-abbrev pub added : List ℤ → List ℕ → Bool × List ℤ
-added zs [] = (true, zs)
-added zs (b ∷ w) = added_number zs (reading (b ∷ w))
+reading w = signed_integer w
 
 -- a number before others
 abbrev pub before : Option ℤ → Option (List ℤ) → Option (List ℤ)

@@ -6,10 +6,8 @@ ghost use Rattle.rulesheet.specs.Lines.{first_line};
 pub fn first_line(bytes: &[u8]) -> (&[u8], &[u8])
     ensures { (result.0.now, result.1.now) ≡ first_line bytes.now }
 {
-    for (i, b) in bytes.iter().enumerate() {
-        if *b == b'\n' {
-            return (&bytes[0..i], &bytes[i + 1..]);
-        }
+    match bytes.iter().position(|b| *b == b'\n') {
+        Some(end) => (&bytes[..end], &bytes[end + 1..]),
+        None => (bytes, b""),
     }
-    (bytes, b"")
 }

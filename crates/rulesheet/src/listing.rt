@@ -1,12 +1,11 @@
 // What the program prints: a refusal, or the inputs of a rule with their grades.
 ghost use Rattle.std.specs.Prelude.{◌≡◌, ◌++◌, take, drop, replicate, IfOk, OnOk, slice_index_or};
-ghost use Rattle.session.specs.Sessions.{loaded, no_rule, model_of};
+ghost use Rattle.session.specs.Sessions.{loaded, no_rule};
 ghost use Rattle.rulesheet.specs.Listings.{input_line, read_lines, listing};
 
 use grades::Written;
-use language::Binder;
+use language::{Binder, GRADES};
 use session::Session;
-use session::load::GRADES;
 use std::alloc::{AllocError, Global};
 use verdicts::{refusal_printed, zeros};
 
@@ -14,34 +13,22 @@ use verdicts::{refusal_printed, zeros};
 fn part(text: &[u8], place: usize, len: usize) -> &[u8]
     ensures { result.now ≡ take len (drop place text.now) }
 {
-    if place >= text.len() {
-        return b"";
-    }
-    let rest = &text[place..];
-    if len >= rest.len() {
-        return rest;
-    }
-    &rest[0..len]
+    let rest = text.get(place..).unwrap_or(b"");
+    rest.get(..len).unwrap_or(rest)
 }
 
 // The grade at the place `i` of the list, and zero past its end.
 fn grade_at<G: Written>(grades: &[G], i: usize) -> G
     ensures { result ≡ slice_index_or grades.now i G.Algebra.nil }
 {
-    if i < grades.len() {
-        grades[i]
-    } else {
-        G::zero()
-    }
+    grades.get(i).copied().unwrap_or(G::zero())
 }
 
 // The text of a grade.
 fn written<G: Written>(heap: Global, grade: G) -> Result<Vec<u8>, AllocError>
     ensures { IfOk result (λ v. v.items ≡ G.Written.writing grade) }
 {
-    let Some(left) = grade.room_after(usize::MAX) else {
-        return Err(AllocError);
-    };
+    let left = grade.room_after(usize::MAX).ok_or(AllocError)?;
     let mut text = vec![in heap; 0; usize::MAX - left]?;
     let _ = grade.write(&mut text, 0);
     Ok(text)
@@ -65,19 +52,18 @@ fn add_line<G: Written>(
     Ok(())
 }
 
+// The line `read`, and then the line of each input.
 fn inputs_printed<G: Written>(
     heap: Global,
     text: &[u8],
     session: &Session,
     grades: &[G],
 ) -> Result<Vec<u8>, AllocError>
-    ensures { IfOk result (λ v. v.items ≡ read_lines G.Written.writing G.Algebra.nil text.now (model_of session.now) grades.now) }
+    ensures { IfOk result (λ v. v.items ≡ read_lines G.Written.writing G.Algebra.nil text.now session.now grades.now) }
 {
     let mut out = Vec::from_slice(heap, b"read\n")?;
-    let mut i = 0;
-    while let Some(binder) = session.input(i) {
-        add_line(heap, &mut out, text, binder, grades)?;
-        i += 1;
+    for binder in session.inputs() {
+        add_line(heap, &mut out, text, *binder, grades)?;
     }
     Ok(out)
 }
@@ -89,7 +75,7 @@ fn load_printed<G: Written>(
     session: &mut Session,
     grades: &mut [G],
 ) -> Result<Vec<u8>, AllocError>
-    ensures { IfOk result (λ v. v.items ≡ listing G.Written.writing G.Algebra.nil text.now (loaded G.Written.reading G.Algebra.unit G.Algebra.nil text.now (model_of session.old) grades.old)) }
+    ensures { IfOk result (λ v. v.items ≡ listing G.Written.writing G.Algebra.nil text.now (loaded G.Written.reading G.Algebra.unit G.Algebra.nil text.now session.old grades.old)) }
 {
     match session.load(text, grades) {
         Ok(()) => inputs_printed(heap, text, session, grades),
@@ -103,5 +89,5 @@ pub fn listed<G: Written>(heap: Global, text: &[u8]) -> Result<Vec<u8>, AllocErr
 {
     let mut session = Session::new(heap)?;
     let mut grades = zeros::<G>(heap, GRADES)?;
-    load_printed(heap, text, &mut session, grades.as_mut_slice())
+    load_printed(heap, text, &mut session, &mut grades)
 }

@@ -7,7 +7,7 @@ mod lines;
 mod listing;
 mod readings;
 
-use anyhow::{Result, bail};
+use anyhow::{Context, Result};
 use grades::{Level, Pair, Span};
 use kind::{Kind, kind_of};
 use lines::first_line;
@@ -27,12 +27,8 @@ fn run(rt: &HostRuntime) -> Result<()> {
     rt.stdin().read_to_end(&mut input)?;
     let (first, rest) = first_line(input.as_slice());
     let (second, text) = first_line(rest);
-    let Some(kind) = kind_of(first) else {
-        bail!("{BAD_KIND}");
-    };
-    let Some(_readings) = readings_of(heap, second)? else {
-        bail!("{BAD_READINGS}");
-    };
+    let kind = kind_of(first).context(BAD_KIND)?;
+    let _readings = readings_of(heap, second)?.context(BAD_READINGS)?;
     let out = match kind {
         Kind::Span => listed::<Span>(heap, text)?,
         Kind::Level => listed::<Level>(heap, text)?,

@@ -35,6 +35,6 @@ module _ {G : Type 0} (a : Ghosts G) (laws : Laws a.nil a.unit a.plus a.times a.
         reports = λ h. absurd_ok (sym fails ∙ h);
       }
 
-  pub correctly : (m : Model) (w : Option Verdict) (list work : List G) (r : Result (Unit {0}) Fault) (v : Option Verdict) (after : List G) → ◌≡◌ {A = Judged G} (r, v, after) (program_judged a m.rule list w work) → JudgesCorrectly a m w list work r after
-  correctly m w list work r v after e due =
-      tells (rule_of a m.rule list) work _ refl r v after (e ∙ judging a m.rule list work w due.long due.wide due.there (ap is_some due.unjudged))
+  pub correctly : (m : Model) (list work : List G) (r : Result (Unit {0}) Fault) (v : Option Verdict) (after : List G) → ◌≡◌ {A = Judged G} (r, v, after) (program_judged a m.rule list m.verdict work) → JudgesCorrectly a m list work r after
+  correctly m list work r v after e due =
+      tells (rule_of a m.rule list) work _ refl r v after (e ∙ judging a m.rule list work m.verdict due.long due.wide due.there (ap is_some due.unjudged))

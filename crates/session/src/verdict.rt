@@ -1,6 +1,6 @@
 // Judging the rule of a session.
 ghost use Rattle.std.specs.Prelude.{◌≡◌};
-ghost use Rattle.session.specs.Sessions.{model_of, verdict_of, session_judged};
+ghost use Rattle.session.specs.Sessions.{session_judged};
 ghost use Rattle.session.specs.Meanings.{JudgesCorrectly};
 
 use crate::state::Session;
@@ -13,9 +13,9 @@ impl Session {
     // zeros behind them; if it is refused, zeros. By its last clause, the rule is accepted exactly when some derivation
     // makes it acceptable, and these usages are the least of any derivation.
     pub fn judge<G: Algebra>(&mut self, grades: &[G], work: &mut [G]) -> Result<(), Fault>
-        ensures judges { (result, verdict_of self.new, work.new) ≡ session_judged G.Algebra grades.now (model_of self.old) (verdict_of self.old) work.old }
-        ensures keeps { model_of self.new ≡ model_of self.old }
-        ensures correctly { JudgesCorrectly G.Algebra (model_of self.old) (verdict_of self.old) grades.now work.old result work.new }
+        ensures judges { (result, self.new, work.new) ≡ session_judged G.Algebra grades.now self.old work.old }
+        ensures keeps { (self.new.phase ≡ self.old.phase) × (self.new.rule ≡ self.old.rule) }
+        ensures correctly { JudgesCorrectly G.Algebra self.old grades.now work.old result work.new }
     {
         judge_program(&self.rule, &mut self.verdict, &mut self.types, grades, work)
     }

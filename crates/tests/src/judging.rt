@@ -1,44 +1,19 @@
 // Rules that are judged: accepted with their usages, or refused at a place, and what each judging leaves.
-use crate::helpers::{add_times, answer, expect, expect_grade, expect_grades, grades_of, tree};
+use crate::helpers::{expect, expect_answer, expect_grade, expect_grades, grades_of, tree};
 use grades::{Algebra, Level, Pair, Span, Written};
-use judge::rule::{GRADES, WORK};
+use judge::rule::WORK;
+use language::GRADES;
 use session::Session;
 use std::alloc::{AllocError, Global};
 use std::test::Fail;
+use tokens::Refusal::{
+    AlreadyJudged, AnswerNotNum, Limit, NoProgram, NotCovered, ShortList, TypesDiffer, Unexpected,
+    WrongType,
+};
+use tokens::{Fault, Refusal};
 
 // A function that reads its argument twice, called.
-const DOUBLE: &[u8] = b"call fn x {2..2} num add x x ";
-
-// Checks that a load is refused with the number at the place, or reads the text where both are zero.
-fn expect_load<G: Written>(
-    session: &mut Session,
-    text: &str,
-    grades: &mut [G],
-    number: u8,
-    place: usize,
-) -> Result<(), Fail> {
-    let (got, at) = answer(session.load(text.as_bytes(), grades));
-    if got == number && at == place {
-        return Ok(());
-    }
-    Err(Fail::new(format_args!("load: {got} at {at}, not {number} at {place}: {text}")))
-}
-
-// Checks that a judging is refused with the number at the place, or accepts the rule where both are zero.
-fn expect_judge<G: Algebra>(
-    session: &mut Session,
-    grades: &[G],
-    work: &mut [G],
-    number: u8,
-    place: usize,
-    text: &str,
-) -> Result<(), Fail> {
-    let (got, at) = answer(session.judge(grades, work));
-    if got == number && at == place {
-        return Ok(());
-    }
-    Err(Fail::new(format_args!("judge: {got} at {at}, not {number} at {place}: {text}")))
-}
+const DOUBLE: &str = "call fn x {2..2} num add x x ";
 
 // Checks that the 2,592 places of a work list are zero from the place `from` on, and that the place behind them is as it was.
 fn expect_zeros<G: Algebra>(work: &[G], from: usize, text: &str) -> Result<(), Fail> {
@@ -48,29 +23,28 @@ fn expect_zeros<G: Algebra>(work: &[G], from: usize, text: &str) -> Result<(), F
 
 // Checks that a work list begins with the grades of the usages, which stand in a text with blanks between them.
 fn expect_usages<G: Written>(work: &[G], usages: &str, text: &str) -> Result<(), Fail> {
-    let mut inputs = 0usize;
-    for usage in usages.split_whitespace() {
+    for (i, usage) in usages.split_whitespace().enumerate() {
         match G::read(usage.as_bytes()) {
-            Some((grade, len)) if len == usage.len() => expect_grade(work, inputs, grade, text)?,
+            Some((grade, len)) if len == usage.len() => expect_grade(work, i, grade, text)?,
             _ => return Err(Fail::new("no such grade")),
         }
-        inputs = inputs.saturating_add(1);
     }
-    expect_zeros(work, inputs, text)
+    expect_zeros(work, usages.split_whitespace().count(), text)
 }
 
-// The work list after a text is loaded and judged. It had one in all its 2,593 places.
-fn judged<G: Written>(heap: Global, text: &str, number: u8, place: usize) -> Result<Vec<G>, Fail> {
+// The work list after a text is loaded, and judged with the answer that is due. It had one in all its 2,593 places.
+fn judged<G: Written>(heap: Global, text: &str, due: Result<(), Fault>) -> Result<Vec<G>, Fail> {
     let mut session = Session::new(heap)?;
     let mut grades = grades_of(heap, G::zero(), GRADES)?;
     let mut work = grades_of(heap, G::one(), WORK + 1)?;
-    expect_load(&mut session, text, grades.as_mut_slice(), 0, 0)?;
-    expect_judge(
-        &mut session,
-        grades.as_slice(),
-        work.as_mut_slice(),
-        number,
-        place,
+    expect_answer(
+        session.load(text.as_bytes(), grades.as_mut_slice()),
+        Ok(()),
+        text,
+    )?;
+    expect_answer(
+        session.judge(grades.as_slice(), work.as_mut_slice()),
+        due,
         text,
     )?;
     Ok(work)
@@ -78,13 +52,13 @@ fn judged<G: Written>(heap: Global, text: &str, number: u8, place: usize) -> Res
 
 // Checks that a rule is accepted, with the least usages of its inputs in order.
 fn accepted<G: Written>(heap: Global, text: &str, usages: &str) -> Result<(), Fail> {
-    let work = judged::<G>(heap, text, 0, 0)?;
+    let work = judged::<G>(heap, text, Ok(()))?;
     expect_usages(work.as_slice(), usages, text)
 }
 
-// Checks that a rule is refused with the number at the place.
-fn refused<G: Written>(heap: Global, text: &str, number: u8, place: usize) -> Result<(), Fail> {
-    let work = judged::<G>(heap, text, number, place)?;
+// Checks that a rule is refused.
+fn refused<G: Written>(heap: Global, text: &str, fault: Fault) -> Result<(), Fail> {
+    let work = judged::<G>(heap, text, Err(fault))?;
     expect_zeros(work.as_slice(), 0, text)
 }
 
@@ -155,7 +129,7 @@ fn usages_not_covered(rt: HostRuntime) -> Result<(), Fail> {
         ),
     ];
     for (text, place) in table {
-        refused::<Span>(rt.alloc(), text, 14, place)?;
+        refused::<Span>(rt.alloc(), text, NotCovered.at(place))?;
     }
     Ok(())
 }
@@ -163,57 +137,56 @@ fn usages_not_covered(rt: HostRuntime) -> Result<(), Fail> {
 #[test]
 fn other_types_due(rt: HostRuntime) -> Result<(), Fail> {
     let table = [
-        ("run call 5 6", 12, 9),
-        ("run add 6 fn x num x", 12, 10),
-        ("run sub fn x num x 5", 12, 8),
-        ("run sub 5 fn x num x", 12, 10),
-        ("run half fn x num x", 12, 9),
-        ("run add fn x num x fn y num 5", 12, 8),
-        ("run call 5 fn x num 5", 12, 9),
-        ("run less fn x num x 1 2 3", 12, 9),
-        ("run less 1 fn x num x fn y num 5 6", 12, 11),
+        ("run call 5 6", WrongType.at(9)),
+        ("run add 6 fn x num x", WrongType.at(10)),
+        ("run sub fn x num x 5", WrongType.at(8)),
+        ("run sub 5 fn x num x", WrongType.at(10)),
+        ("run half fn x num x", WrongType.at(9)),
+        ("run add fn x num x fn y num 5", WrongType.at(8)),
+        ("run call 5 fn x num 5", WrongType.at(9)),
+        ("run less fn x num x 1 2 3", WrongType.at(9)),
+        ("run less 1 fn x num x fn y num 5 6", WrongType.at(11)),
         (
             "input a {2..2} run call fn f to {2..2} num num call f a fn x {1..2} num add x x",
-            13,
-            56,
+            TypesDiffer.at(56),
         ),
-        ("run call fn x num x fn y num y", 13, 20),
-        ("run call less 1 2 fn x num x fn y {1..2} num y 5", 13, 29),
-        ("run less 1 2 3 fn x num x", 13, 15),
-        ("run less 1 2 fn x num x 3", 13, 24),
-        ("run fn x num x", 15, 4),
-        ("input a {0..0} run fn x num add x a", 15, 19),
+        ("run call fn x num x fn y num y", TypesDiffer.at(20)),
+        (
+            "run call less 1 2 fn x num x fn y {1..2} num y 5",
+            TypesDiffer.at(29),
+        ),
+        ("run less 1 2 3 fn x num x", TypesDiffer.at(15)),
+        ("run less 1 2 fn x num x 3", TypesDiffer.at(24)),
+        ("run fn x num x", AnswerNotNum.at(4)),
+        ("input a {0..0} run fn x num add x a", AnswerNotNum.at(19)),
     ];
-    for (text, number, place) in table {
-        refused::<Span>(rt.alloc(), text, number, place)?;
+    for (text, fault) in table {
+        refused::<Span>(rt.alloc(), text, fault)?;
     }
     Ok(())
 }
 
 // An input that is doubled so many times.
-fn doubled(heap: Global, input: &[u8], times: usize) -> Result<Vec<u8>, AllocError> {
-    let mut text = Vec::from_slice(heap, input)?;
-    text.extend_from_slice(b" run ")?;
-    add_times(&mut text, DOUBLE, times)?;
-    text.extend_from_slice(b"a")?;
-    Ok(text)
+fn doubled(heap: Global, input: &str, times: usize) -> Result<String, AllocError> {
+    let calls = DOUBLE.repeat(heap, times)?;
+    format!(in heap; "{input} run {calls}a")
 }
 
 #[test]
 fn saturation(rt: HostRuntime) -> Result<(), Fail> {
     let heap = rt.alloc();
-    let below = doubled(heap, b"input a {8192..8192}", 13)?;
-    accepted::<Span>(heap, std::str::from_utf8(below.as_slice())?, "8192..8192")?;
-    let above = doubled(heap, b"input a {9999..*}", 14)?;
-    accepted::<Span>(heap, std::str::from_utf8(above.as_slice())?, "9999..*")?;
-    let limited = doubled(heap, b"input a {9999..9999}", 14)?;
-    refused::<Span>(heap, std::str::from_utf8(limited.as_slice())?, 14, 6)
+    let below = doubled(heap, "input a {8192..8192}", 13)?;
+    accepted::<Span>(heap, below.as_str(), "8192..8192")?;
+    let above = doubled(heap, "input a {9999..*}", 14)?;
+    accepted::<Span>(heap, above.as_str(), "9999..*")?;
+    let limited = doubled(heap, "input a {9999..9999}", 14)?;
+    refused::<Span>(heap, limited.as_str(), NotCovered.at(6))
 }
 
 #[test]
 fn other_algebras(rt: HostRuntime) -> Result<(), Fail> {
     let heap = rt.alloc();
-    refused::<Level>(heap, "input a {crew} run a", 14, 6)?;
+    refused::<Level>(heap, "input a {crew} run a", NotCovered.at(6))?;
     accepted::<Level>(heap, "input a {public} run a", "public")?;
     accepted::<Level>(heap, "input a {crew} run 5", "secret")?;
     accepted::<Level>(heap, "input a {crew} run call fn x {crew} num 5 a", "crew")?;
@@ -221,137 +194,126 @@ fn other_algebras(rt: HostRuntime) -> Result<(), Fail> {
     refused::<Level>(
         heap,
         "run call fn f to {crew} num num call f 5 fn x num x",
-        13,
-        41,
+        TypesDiffer.at(41),
     )?;
     accepted::<Pair<Span, Level>>(heap, "input a {2..2|public} run add a a", "2..2|public")?;
-    refused::<Pair<Span, Level>>(heap, "input a {1..1|crew} run a", 14, 6)
+    refused::<Pair<Span, Level>>(heap, "input a {1..1|crew} run a", NotCovered.at(6))
 }
 
-// Checks a judging of a session that writes nothing into its work list, of so many places.
-fn expect_kept(
+// A session, with the grade list that its calls are given.
+#[derive(Drop)]
+struct Fixture {
     heap: Global,
-    session: &mut Session,
-    grades: &[Span],
-    places: usize,
-    number: u8,
-    text: &str,
-) -> Result<(), Fail> {
-    let mut work = grades_of(heap, <Span as Algebra>::one(), places)?;
-    expect_judge(session, grades, work.as_mut_slice(), number, 0, text)?;
-    expect_grades(work.as_slice(), 0, places, <Span as Algebra>::one(), text)
+    session: Session,
+    grades: Vec<Span>,
 }
 
-// Checks a judging of a session whose rule has no inputs, or is refused.
-fn expect_cleared(
-    heap: Global,
-    session: &mut Session,
-    grades: &[Span],
-    number: u8,
-    place: usize,
-    text: &str,
-) -> Result<(), Fail> {
-    let mut work = grades_of(heap, <Span as Algebra>::one(), WORK + 1)?;
-    expect_judge(session, grades, work.as_mut_slice(), number, place, text)?;
-    expect_zeros(work.as_slice(), 0, text)
-}
+impl Fixture {
+    // A session without a rule, and a list of the grade.
+    fn new(heap: Global, grade: Span) -> Result<Fixture, AllocError> {
+        let session = Session::new(heap)?;
+        let grades = grades_of(heap, grade, GRADES)?;
+        Ok(Fixture {
+            heap,
+            session,
+            grades,
+        })
+    }
 
-// Checks that lists with a place too few are refused, and leave the work list.
-fn expect_short(
-    heap: Global,
-    session: &mut Session,
-    grades: &[Span],
-    text: &str,
-) -> Result<(), Fail> {
-    let short = grades_of(heap, <Span as Algebra>::one(), 255)?;
-    expect_kept(heap, session, short.as_slice(), 2593, 1, text)?;
-    expect_kept(heap, session, grades, 2591, 1, text)
+    // Checks what a load comes to.
+    fn load(&mut self, text: &str, due: Result<(), Fault>) -> Result<(), Fail> {
+        let got = self
+            .session
+            .load(text.as_bytes(), self.grades.as_mut_slice());
+        expect_answer(got, due, text)
+    }
+
+    // Checks a judging that is refused, and writes nothing into its work list of so many places.
+    fn keeps(&mut self, places: usize, refusal: Refusal, text: &str) -> Result<(), Fail> {
+        let mut work = grades_of(self.heap, <Span as Algebra>::one(), places)?;
+        let got = self
+            .session
+            .judge(self.grades.as_slice(), work.as_mut_slice());
+        expect_answer(got, Err(refusal.at(0)), text)?;
+        expect_grades(work.as_slice(), 0, places, <Span as Algebra>::one(), text)
+    }
+
+    // Checks a judging of a rule that has no inputs, or is refused.
+    fn clears(&mut self, due: Result<(), Fault>, text: &str) -> Result<(), Fail> {
+        let mut work = grades_of(self.heap, <Span as Algebra>::one(), WORK + 1)?;
+        let got = self
+            .session
+            .judge(self.grades.as_slice(), work.as_mut_slice());
+        expect_answer(got, due, text)?;
+        expect_zeros(work.as_slice(), 0, text)
+    }
+
+    // Checks that lists with a place too few are refused, and leave the work list.
+    fn refuses_short_lists(&mut self, text: &str) -> Result<(), Fail> {
+        let short = grades_of(self.heap, <Span as Algebra>::one(), GRADES - 1)?;
+        let mut work = grades_of(self.heap, <Span as Algebra>::one(), WORK + 1)?;
+        let got = self.session.judge(short.as_slice(), work.as_mut_slice());
+        expect_answer(got, Err(ShortList.at(0)), text)?;
+        expect_grades(work.as_slice(), 0, WORK + 1, <Span as Algebra>::one(), text)?;
+        self.keeps(WORK - 1, ShortList, text)
+    }
+
+    // Checks a load and two judgings, of which the second is one too many.
+    fn judges_once(&mut self, text: &str, due: Result<(), Fault>) -> Result<(), Fail> {
+        self.load(text, Ok(()))?;
+        self.clears(due, text)?;
+        self.keeps(WORK + 1, AlreadyJudged, text)
+    }
 }
 
 // The lists are tested before the program.
 #[test]
 fn before_a_load(rt: HostRuntime) -> Result<(), Fail> {
-    let heap = rt.alloc();
-    let mut session = Session::new(heap)?;
-    let mut grades = grades_of(heap, <Span as Algebra>::one(), 256)?;
-    expect_short(heap, &mut session, grades.as_slice(), "")?;
-    expect_kept(heap, &mut session, grades.as_slice(), 2593, 10, "")?;
-    expect_load(&mut session, "run", grades.as_mut_slice(), 7, 3)?;
-    expect_kept(heap, &mut session, grades.as_slice(), 2593, 10, "run")
+    let mut fixture = Fixture::new(rt.alloc(), <Span as Algebra>::one())?;
+    fixture.refuses_short_lists("")?;
+    fixture.keeps(WORK + 1, NoProgram, "")?;
+    fixture.load("run", Err(Unexpected.at(3)))?;
+    fixture.keeps(WORK + 1, NoProgram, "run")
 }
 
 // The lists are tested before the verdict, and lists that are just long enough will do.
 #[test]
 fn shortest_lists(rt: HostRuntime) -> Result<(), Fail> {
-    let heap = rt.alloc();
-    let mut session = Session::new(heap)?;
-    let mut grades = grades_of(heap, <Span as Algebra>::one(), 256)?;
-    expect_load(&mut session, "run 5", grades.as_mut_slice(), 0, 0)?;
-    expect_short(heap, &mut session, grades.as_slice(), "run 5")?;
-    let mut work = grades_of(heap, <Span as Algebra>::one(), 2592)?;
-    expect_judge(
-        &mut session,
-        grades.as_slice(),
-        work.as_mut_slice(),
-        0,
-        0,
-        "run 5",
-    )?;
+    let mut fixture = Fixture::new(rt.alloc(), <Span as Algebra>::one())?;
+    fixture.load("run 5", Ok(()))?;
+    fixture.refuses_short_lists("run 5")?;
+    let mut work = grades_of(rt.alloc(), <Span as Algebra>::one(), 2592)?;
+    let got = fixture
+        .session
+        .judge(fixture.grades.as_slice(), work.as_mut_slice());
+    expect_answer(got, Ok(()), "run 5")?;
     expect_grades(work.as_slice(), 0, 2592, <Span as Algebra>::zero(), "run 5")?;
-    expect_short(heap, &mut session, grades.as_slice(), "run 5")
-}
-
-// Checks a load and two judgings, of which the second is one too many.
-fn expect_once(
-    heap: Global,
-    session: &mut Session,
-    text: &str,
-    number: u8,
-    place: usize,
-) -> Result<(), Fail> {
-    let mut grades = grades_of(heap, <Span as Algebra>::zero(), GRADES)?;
-    expect_load(session, text, grades.as_mut_slice(), 0, 0)?;
-    expect_cleared(heap, session, grades.as_slice(), number, place, text)?;
-    expect_kept(heap, session, grades.as_slice(), 2593, 11, text)
+    fixture.refuses_short_lists("run 5")
 }
 
 // A rule is judged once per load, and a load that is refused for its list leaves the verdict.
 #[test]
 fn judged_once(rt: HostRuntime) -> Result<(), Fail> {
     let heap = rt.alloc();
-    let mut session = Session::new(heap)?;
-    expect_once(heap, &mut session, "run 5", 0, 0)?;
-    expect_once(heap, &mut session, "run call 5 6", 12, 9)?;
+    let mut fixture = Fixture::new(heap, <Span as Algebra>::zero())?;
+    fixture.judges_once("run 5", Ok(()))?;
+    fixture.judges_once("run call 5 6", Err(WrongType.at(9)))?;
     let mut short = grades_of(heap, <Span as Algebra>::zero(), 255)?;
-    expect_load(&mut session, "run 5", short.as_mut_slice(), 1, 0)?;
-    let grades = grades_of(heap, <Span as Algebra>::zero(), GRADES)?;
-    expect_kept(
-        heap,
-        &mut session,
-        grades.as_slice(),
-        2593,
-        11,
-        "run call 5 6",
-    )?;
-    expect_once(heap, &mut session, "run 5", 0, 0)
+    let got = fixture.session.load(b"run 5", short.as_mut_slice());
+    expect_answer(got, Err(ShortList.at(0)), "run 5")?;
+    fixture.keeps(WORK + 1, AlreadyJudged, "run call 5 6")?;
+    fixture.judges_once("run 5", Ok(()))
 }
 
 // Checks the judging of a text after `1..1` is written into a place of the grade list.
-fn expect_changed(
-    heap: Global,
-    text: &str,
-    i: usize,
-    number: u8,
-    place: usize,
-) -> Result<(), Fail> {
-    let mut session = Session::new(heap)?;
-    let mut grades = grades_of(heap, <Span as Algebra>::zero(), GRADES)?;
-    expect_load(&mut session, text, grades.as_mut_slice(), 0, 0)?;
-    match grades.get_mut(i) {
+fn expect_changed(heap: Global, text: &str, i: usize, due: Result<(), Fault>) -> Result<(), Fail> {
+    let mut fixture = Fixture::new(heap, <Span as Algebra>::zero())?;
+    fixture.load(text, Ok(()))?;
+    match fixture.grades.get_mut(i) {
         Some(grade) => *grade = <Span as Algebra>::one(),
         None => return Err(Fail::new("no such grade")),
     }
-    expect_cleared(heap, &mut session, grades.as_slice(), number, place, text)
+    fixture.clears(due, text)
 }
 
 // The grades are those found in the grade list, whoever wrote them.
@@ -359,47 +321,51 @@ fn expect_changed(
 fn grades_found_in_the_list(rt: HostRuntime) -> Result<(), Fail> {
     let heap = rt.alloc();
     accepted::<Span>(heap, "input a {2..2} run add a a", "2..2")?;
-    expect_changed(heap, "input a {2..2} run add a a", 0, 14, 6)?;
+    expect_changed(heap, "input a {2..2} run add a a", 0, Err(NotCovered.at(6)))?;
     let function = "run call fn f to {1..1} num num call f 5 fn x {1..2} num x";
-    refused::<Span>(heap, function, 13, 41)?;
-    expect_changed(heap, function, 2, 0, 0)
+    refused::<Span>(heap, function, TypesDiffer.at(41))?;
+    expect_changed(heap, function, 2, Ok(()))
 }
 
 // Sums of 128, 64 and 32 names and of one doubled eight times, with other words around the last.
-fn large_rule(heap: Global, words: &[u8]) -> Result<Vec<u8>, AllocError> {
-    let mut text = Vec::from_slice(heap, b"input a {480..480} run ")?;
+fn large_rule(heap: Global, words: &str) -> Result<String, AllocError> {
+    let mut text = String::from_str(heap, "input a {480..480} run ")?;
     for height in [7usize, 6, 5] {
-        text.extend_from_slice(b"add ")?;
-        let sum = tree(heap, b"add ", b"a ", height)?;
-        text.extend_from_slice(sum.as_slice())?;
+        let sum = tree(heap, "add ", "a ", height)?;
+        text.push_str("add ")?;
+        text.push_str(sum.as_str())?;
     }
-    add_times(&mut text, DOUBLE, 8)?;
-    text.extend_from_slice(words)?;
-    add_times(&mut text, b"half ", 11)?;
-    text.extend_from_slice(b"a")?;
-    Ok(text)
+    let calls = DOUBLE.repeat(heap, 8)?;
+    let halves = "half ".repeat(heap, 11)?;
+    format!(in heap; "{text}{calls}{words}{halves}a")
 }
 
 // A rule of 512 words and of depth 24. With a word more, or deeper by one, it is not read.
 #[test]
 fn largest_rules(rt: HostRuntime) -> Result<(), Fail> {
     let heap = rt.alloc();
-    let largest = large_rule(heap, b"call fn x num x ")?;
-    accepted::<Span>(heap, std::str::from_utf8(largest.as_slice())?, "480..480")?;
-    let longer = large_rule(heap, b"add add a half a ")?;
-    expect(heap, longer.as_slice(), 9, longer.len().saturating_sub(1))?;
-    let deeper = large_rule(heap, b"half half ")?;
-    expect(heap, deeper.as_slice(), 9, deeper.len().saturating_sub(1))
+    let largest = large_rule(heap, "call fn x num x ")?;
+    accepted::<Span>(heap, largest.as_str(), "480..480")?;
+    let longer = large_rule(heap, "add add a half a ")?;
+    expect(
+        heap,
+        longer.as_str(),
+        Err(Limit.at(longer.len().saturating_sub(1))),
+    )?;
+    let deeper = large_rule(heap, "half half ")?;
+    expect(
+        heap,
+        deeper.as_str(),
+        Err(Limit.at(deeper.len().saturating_sub(1))),
+    )
 }
 
 // As many binders as can be open at once: 31.
 #[test]
 fn most_binders(rt: HostRuntime) -> Result<(), Fail> {
     let heap = rt.alloc();
-    let mut open = Vec::new(heap);
-    add_times(&mut open, b"input a {0..0} ", 8)?;
-    open.extend_from_slice(b"run ")?;
-    add_times(&mut open, b"fn x {0..0} num ", 23)?;
-    open.extend_from_slice(b"5")?;
-    refused::<Span>(heap, std::str::from_utf8(open.as_slice())?, 15, 124)
+    let inputs = "input a {0..0} ".repeat(heap, 8)?;
+    let functions = "fn x {0..0} num ".repeat(heap, 23)?;
+    let open = format!(in heap; "{inputs}run {functions}5")?;
+    refused::<Span>(heap, open.as_str(), AnswerNotNum.at(124))
 }

@@ -1,14 +1,12 @@
 // The grade list and the session after loads.
 use crate::helpers::{expect_grade, expect_grades, grades_of};
 use grades::{Algebra, Span};
+use language::Binder;
 use session::Session;
 use std::test::Fail;
 
 fn span(lower: u16, upper: Option<u16>) -> Result<Span, Fail> {
-    match Span::new(lower, upper) {
-        Some(span) => Ok(span),
-        None => Err(Fail::new("no such span")),
-    }
+    Ok(Span::new(lower, upper).ok_or("no such span")?)
 }
 
 // Checks that the places from `from` to the 256th are zero, and that the 257th is as it was.
@@ -23,10 +21,7 @@ fn grades_of_a_rule(rt: HostRuntime) -> Result<(), Fail> {
     let mut session = Session::new(rt.alloc())?;
     let mut grades = grades_of(rt.alloc(), old, 257)?;
     let text = "input a {1..2} input b run call fn c {0..*} to {3..3} num num 5 6";
-    let read = session
-        .load::<Span>(text.as_bytes(), grades.as_mut_slice())
-        .is_ok();
-    assert!(rt; read);
+    assert!(rt; session.load(text.as_bytes(), grades.as_mut_slice()).is_ok());
     expect_grade(grades.as_slice(), 0, span(1, Some(2))?, text)?;
     expect_grade(grades.as_slice(), 1, span(1, Some(1))?, text)?;
     expect_grade(grades.as_slice(), 2, span(0, None)?, text)?;
@@ -39,14 +34,17 @@ fn zeros_after_a_refusal(rt: HostRuntime) -> Result<(), Fail> {
     let old = span(9, Some(9))?;
     let mut session = Session::new(rt.alloc())?;
     let mut grades = grades_of(rt.alloc(), old, 257)?;
-    let read = session
-        .load::<Span>(b"input a {1..2} run a", grades.as_mut_slice())
-        .is_ok();
-    assert!(rt; read);
-    let read = session
-        .load::<Span>(b"input a {1..2} run b", grades.as_mut_slice())
-        .is_ok();
-    assert!(rt; !read && session.input(0).is_none());
+    assert!(rt;
+        session
+            .load(b"input a {1..2} run a", grades.as_mut_slice())
+            .is_ok()
+    );
+    assert!(rt;
+        session
+            .load(b"input a {1..2} run b", grades.as_mut_slice())
+            .is_err()
+    );
+    assert_eq!(rt; session.input(0), None);
     expect_rest(grades.as_slice(), 0, old, "input a {1..2} run b")
 }
 
@@ -55,19 +53,21 @@ fn nothing_changed_by_a_short_list(rt: HostRuntime) -> Result<(), Fail> {
     let old = span(9, Some(9))?;
     let mut session = Session::new(rt.alloc())?;
     let mut grades = grades_of(rt.alloc(), old, 256)?;
-    let read = session
-        .load::<Span>(b"input old run old", grades.as_mut_slice())
-        .is_ok();
-    assert!(rt; read);
+    assert!(rt;
+        session
+            .load(b"input old run old", grades.as_mut_slice())
+            .is_ok()
+    );
     let mut short = grades_of(rt.alloc(), old, 255)?;
-    let read = session.load::<Span>(b"run 5", short.as_mut_slice()).is_ok();
-    assert!(rt; !read);
+    assert!(rt; session.load(b"run 5", short.as_mut_slice()).is_err());
     expect_grade(short.as_slice(), 0, old, "run 5")?;
     expect_grade(short.as_slice(), 254, old, "run 5")?;
-    match session.input(0) {
-        Some(binder) => assert!(rt; binder.place == 6 && binder.len == 3 && binder.grade == 0),
-        None => return Err(Fail::new("the rule is gone")),
-    }
-    assert!(rt; session.input(1).is_none());
+    let binder = Binder {
+        place: 6,
+        len: 3,
+        grade: 0,
+    };
+    assert_eq!(rt; session.input(0), Some(binder));
+    assert_eq!(rt; session.input(1), None);
     Ok(())
 }

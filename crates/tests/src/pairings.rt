@@ -1,25 +1,22 @@
 // Grades read and written again, one by one and in pairings of pairings.
-use crate::helpers::outcome;
+use crate::helpers::loaded;
 use grades::{Algebra, Level, Pair, Span, Written};
 use std::alloc::{AllocError, Global};
 use std::test::Fail;
-use tokens::same_word;
+use tokens::Refusal::BadGrade;
 
 // Whether the bytes are the text of a grade: read whole, and written again as they are.
 fn is_text<G: Written>(heap: Global, bytes: &[u8]) -> Result<bool, AllocError> {
     let Some((grade, len)) = G::read(bytes) else {
         return Ok(false);
     };
-    let mut out = Vec::from_slice(heap, bytes)?;
-    for b in out.iter_mut() {
-        *b = b'#';
-    }
+    let mut out = vec![in heap; b'#'; bytes.len()]?;
     let end = grade.write(out.as_mut_slice(), 0);
     Ok(
         len == bytes.len()
             && grade.room_after(bytes.len()) == Some(0)
             && end == Some(len)
-            && same_word(out.as_slice(), bytes),
+            && out.as_slice() == bytes,
     )
 }
 
@@ -50,13 +47,20 @@ fn nested_pairings(rt: HostRuntime) -> Result<(), Fail> {
 #[test]
 fn loads(rt: HostRuntime) -> Result<(), Fail> {
     let heap = rt.alloc();
-    assert!(rt; outcome::<Level>(heap, b"input a {crew} run a")? == (0, 0));
-    assert!(rt; outcome::<Level>(heap, b"input a {1..1} run a")? == (6, 8));
-    assert!(rt; outcome::<Pair<Span, Level>>(heap, b"input a {1..1|public} run a")? == (0, 0));
-    assert!(rt; outcome::<Pair<Span, Level>>(heap, b"input a {1..1} run a")? == (6, 8));
-    assert!(rt;
-        outcome::<Pair<Pair<Span, Level>, Span>>(heap, b"input a {1..1|public|0..*} run a")?
-            == (0, 0)
+    let unread = Err(BadGrade.at(8));
+    assert_eq!(rt; loaded::<Level>(heap, b"input a {crew} run a")?, Ok(()));
+    assert_eq!(rt; loaded::<Level>(heap, b"input a {1..1} run a")?, unread);
+    assert_eq!(rt;
+        loaded::<Pair<Span, Level>>(heap, b"input a {1..1|public} run a")?,
+        Ok(())
+    );
+    assert_eq!(rt;
+        loaded::<Pair<Span, Level>>(heap, b"input a {1..1} run a")?,
+        unread
+    );
+    assert_eq!(rt;
+        loaded::<Pair<Pair<Span, Level>, Span>>(heap, b"input a {1..1|public|0..*} run a")?,
+        Ok(())
     );
     Ok(())
 }

@@ -1,8 +1,6 @@
 -- Writing into a buffer: whether it fits, and one writing after another.
-use Rattle.std.proofs.Common.{◌≡◌, ℕ, ◌+◌, ◌-◌, ◌<◌, ◌≤◌, List, ◌++◌, length, take, drop, Some, None, Option, sym, refl, ap, ◌∙◌, ⊎_elim, arith}
-use borrow.Rule.Slice.PartMut.{put_mid}
-use Rattle.std.proofs.lemmas.List.{append_assoc, length-append, length-drop, length-take-le, take_all, take_at, drop_at, drop-drop}
-use Rattle.std.proofs.lemmas.Slice.{put_mid-paste}
+use Rattle.std.proofs.Common.{◌≡◌, ℕ, ◌+◌, ◌-◌, ◌<◌, ◌≤◌, List, ◌++◌, length, take, drop, Some, None, Option, sym, ap, ◌∙◌, ⊎_elim, arith}
+use Rattle.std.proofs.lemmas.List.{append_assoc, length-append, length-drop, length-take-le, take_at, drop_at, drop-drop}
 use Rattle.std.proofs.lemmas.Bool.{cond-true, cond-false, le-leb, lt-leb, cases_lt}
 use Rattle.text.specs.Put.{room_left, overwritten, put}
 
@@ -17,11 +15,6 @@ room_fits room n h = cond-true _ _ _ (le-leb _ _ h)
 
 pub room_refused : (room n : ℕ) → room < n → room_left room n ≡ None
 room_refused room n h = cond-false _ _ _ (lt-leb _ _ h)
-
--- a copy to the part of a slice from `at` on
-pub overwritten_part : (at n : ℕ) (buffer part w : List ℕ) → part ≡ w → n ≡ length w → put_mid at n buffer part ≡ overwritten buffer at w
-overwritten_part at n buffer part w e k =
-    put_mid-paste at n buffer part w (length w) e (sym k) refl ∙ append_assoc (take at buffer) (take (length w) w) (drop (at + length w) buffer) ∙ ap (λ v. take at buffer ++ (v ++ drop (at + length w) buffer)) (take_all (length w) w (omega arith))
 
 pub length-overwritten : (buffer : List ℕ) (at : ℕ) (w : List ℕ) → at + length w ≤ length buffer → length (overwritten buffer at w) ≡ length buffer
 length-overwritten buffer at w h =

@@ -1,5 +1,5 @@
 -- Decimal numbers, as their digits write them. Assumes nothing.
-use Rattle.std.specs.Prelude.{ℕ, zero, suc, Bool, true, false, cond, not, ◌&&◌, List, [], ◌∷◌, ℤ, pos, negsuc, Some, None, Option, ◌==◌, nat_le}
+use Rattle.std.specs.Prelude.{ℕ, zero, suc, Bool, true, false, cond, not, ◌&&◌, List, [], ◌∷◌, drop, ℤ, pos, negsuc, Some, None, Option, ◌==◌, nat_le, slice_index}
 use Rattle.std.specs.Str.Parse.{digits_value}
 use Rattle.std.specs.Str.{all_ascii_digits}
 
@@ -27,3 +27,7 @@ negative (Some (suc n)) = Some (negsuc n)
 abbrev pub integer_of : List ℕ → Bool → Option ℤ
 integer_of ds false = natural (decimal_upto ds 2147483647)
 integer_of ds true = negative (decimal_upto ds 2147483648)
+
+-- the signed number of 32 bits that a text writes: digits, `-` before them or not, no leading zero and no `-0`
+abbrev pub signed_integer : List ℕ → Option ℤ
+signed_integer w = cond (slice_index w 0 == 45) (integer_of (drop 1 w) true) (integer_of w false)

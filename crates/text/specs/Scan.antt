@@ -1,6 +1,7 @@
 -- Classes of bytes, and where a run of them ends. Assumes nothing.
-use Rattle.std.specs.Prelude.{ℕ, suc, ◌+◌, Bool, cond, not, ◌||◌, List, [], ◌∷◌, drop, ◌==◌}
+use Rattle.std.specs.Prelude.{ℕ, ◌+◌, Bool, not, ◌||◌, List, drop, ◌==◌}
 use Rattle.std.specs.Int.{is_in_range}
+use Rattle.std.specs.List.{prefix_len}
 use Rattle.text.specs.declared.scan.Class.{Class}
 use Rattle.text.specs.declared.scan.Class.TheVariants.{Blank, Digit, Wordy, Inside}
 
@@ -11,11 +12,6 @@ in_class Digit b = is_in_range 48 57 b
 in_class Wordy b = is_in_range 97 122 b || (is_in_range 65 90 b || (is_in_range 48 57 b || b == 95))
 in_class Inside b = not (b == 125)
 
--- how many bytes at the front pass the test
-abbrev pub front : (ℕ → Bool) → List ℕ → ℕ
-front p [] = 0
-front p (b ∷ bs) = cond (p b) (suc (front p bs)) 0
-
 -- the first place at or after `from` whose byte is not of the class
 abbrev pub run_end : Class → List ℕ → ℕ → ℕ
-run_end class text from = from + front (in_class class) (drop from text)
+run_end class text from = from + prefix_len (in_class class) (drop from text)

@@ -1,9 +1,11 @@
 // Runs of bytes: where the bytes of a class end.
-ghost use Rattle.std.specs.Prelude.{◌≡◌};
+ghost use Rattle.std.specs.Prelude.{◌≡◌, ◌≤◌, length};
+ghost use Rattle.std.specs.List.{prefix_len};
 ghost use Rattle.text.specs.Scan.{in_class, run_end};
 
 // Spaces and ends of lines; the digits; letters, digits and `_`; and all but `}`.
-#[derive(Clone, Copy)]
+// An enum and no closure: definitions name the class, and a closure would have to be tied to them at each call.
+#[derive(Clone, Copy, PartialEq, Eq, Debug)]
 pub enum Class {
     Blank,
     Digit,
@@ -17,15 +19,20 @@ impl Class {
         ensures { result ≡ in_class self b }
     {
         match self {
-            Class::Blank => b == b' ' || b == b'\n' || b == b'\r',
-            Class::Digit => b >= b'0' && b <= b'9',
-            Class::Wordy => b >= b'a' && b <= b'z'
-                || b >= b'A' && b <= b'Z'
-                || b >= b'0' && b <= b'9'
-                || b == b'_',
+            Class::Blank => matches!(b, b' ' | b'\n' | b'\r'),
+            Class::Digit => b.is_ascii_digit(),
+            Class::Wordy => b.is_ascii_alphanumeric() || b == b'_',
             Class::Inside => b != b'}',
         }
     }
+}
+
+// How many bytes at the front are of the class.
+fn front(bytes: &[u8], class: Class) -> usize
+    ensures value { result ≡ prefix_len (in_class class) bytes.now }
+    ensures within { result ≤ length bytes.now }
+{
+    bytes.iter().take_while(|b| class.holds(**b)).count()
 }
 
 // The first place at or after `from` whose byte is not of the class, or the end of the text.
@@ -33,9 +40,5 @@ impl Class {
 pub fn run_end(text: &[u8], from: usize, class: Class) -> usize
     ensures { result ≡ run_end class text.now from }
 {
-    let mut at = from;
-    while at < text.len() && class.holds(text[at]) {
-        at += 1;
-    }
-    at
+    from + front(text.get(from..).unwrap_or(&[]), class)
 }

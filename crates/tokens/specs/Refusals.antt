@@ -1,5 +1,6 @@
--- The number of each refusal. Assumes nothing.
-use Rattle.std.specs.Prelude.{ℕ}
+-- The number of each refusal, and what is printed of one with its place. Assumes nothing.
+use Rattle.std.specs.Prelude.{ℕ, List, ◌++◌, codes, decimal}
+use Rattle.tokens.specs.declared.refusal.Fault.{Fault}
 use Rattle.tokens.specs.declared.refusal.Refusal.{Refusal}
 use Rattle.tokens.specs.declared.refusal.Refusal.TheVariants.{ShortList, NoText, LongText, NoToken, BadToken, BadGrade, Unexpected, NotOpen, Limit, NoProgram, AlreadyJudged, WrongType, TypesDiffer, NotCovered, AnswerNotNum}
 
@@ -19,3 +20,7 @@ number_of WrongType = 12
 number_of TypesDiffer = 13
 number_of NotCovered = 14
 number_of AnswerNotNum = 15
+
+-- `refused N at P`
+abbrev pub fault_text : Fault → List ℕ
+fault_text f = codes "refused " ++ (decimal (number_of f.refusal) ++ (codes " at " ++ decimal f.place))

@@ -59,6 +59,10 @@ module _ {G : Type 0} (reading : List ℕ → Option (G × ℕ)) (text : List �
       let e = run_end Digit text (p + 1) in
       cond (e == p + 1) (Err (fault NoToken p)) (number_of p e (integer_of (between (p + 1) e text) true))
 
+  -- a number, with a `-` or without
+  abbrev pub signed_at : ℕ → Result (Lexed G) Fault
+  signed_at p = cond (slice_index text p == 45) (negative_at p) (number_at p)
+
   -- `{`, a writing, which is read whole, and the next `}`
   abbrev pub grade_of : ℕ → ℕ → Option (G × ℕ) → Result (Lexed G) Fault
   grade_of p e None = Err (fault BadGrade p)

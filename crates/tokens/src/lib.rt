@@ -5,6 +5,6 @@ pub mod keyword;
 pub mod refusal;
 pub mod token;
 
-pub use keyword::{Keyword, keyword_of, same_word};
+pub use keyword::{Keyword, keyword_of};
 pub use refusal::{Fault, Refusal};
 pub use token::{Placed, Token, token_at};

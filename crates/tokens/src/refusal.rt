@@ -1,62 +1,61 @@
 // Why a call refuses, with the number of each reason.
-ghost use Rattle.std.specs.Prelude.{◌≡◌};
-ghost use Rattle.tokens.specs.Refusals.{number_of};
+ghost use Rattle.std.specs.Prelude.{◌≡◌, Some};
+ghost use Rattle.tokens.specs.Refusals.{number_of, fault_text};
+ghost use Rattle.tokens.specs.Tokens.{fault};
+
+use std::error::Error;
+use std::fmt;
 
 // What was wrong. The numbers are part of every answer, so they never change.
 #[derive(Clone, Copy, PartialEq, Eq, Debug)]
 pub enum Refusal {
     // a list of grades is too short
-    ShortList,
+    ShortList = 1,
     // the text has no byte
-    NoText,
+    NoText = 2,
     // the text is too long
-    LongText,
+    LongText = 3,
     // a byte starts no token
-    NoToken,
+    NoToken = 4,
     // a word is too long, or a number is badly written or too large
-    BadToken,
+    BadToken = 5,
     // a grade is not closed or not read whole
-    BadGrade,
+    BadGrade = 6,
     // another token is due, or the text ends or goes on
-    Unexpected,
+    Unexpected = 7,
     // a name is not open
-    NotOpen,
+    NotOpen = 8,
     // a limit is passed
-    Limit,
+    Limit = 9,
     // the session has no program
-    NoProgram,
+    NoProgram = 10,
     // the rule is judged already
-    AlreadyJudged,
+    AlreadyJudged = 11,
     // a term is not `num`, or not `to`, where it has to be
-    WrongType,
+    WrongType = 12,
     // the type of an argument, or of the fourth part of `less`, differs from the one due
-    TypesDiffer,
+    TypesDiffer = 13,
     // a declared grade does not cover the usage of its name
-    NotCovered,
+    NotCovered = 14,
     // the answer of the rule is not `num`
-    AnswerNotNum,
+    AnswerNotNum = 15,
 }
 
 impl Refusal {
+    // The number of the refusal.
     pub fn number(self) -> u8
         ensures { result ≡ number_of self }
     {
-        match self {
-            Refusal::ShortList => 1,
-            Refusal::NoText => 2,
-            Refusal::LongText => 3,
-            Refusal::NoToken => 4,
-            Refusal::BadToken => 5,
-            Refusal::BadGrade => 6,
-            Refusal::Unexpected => 7,
-            Refusal::NotOpen => 8,
-            Refusal::Limit => 9,
-            Refusal::NoProgram => 10,
-            Refusal::AlreadyJudged => 11,
-            Refusal::WrongType => 12,
-            Refusal::TypesDiffer => 13,
-            Refusal::NotCovered => 14,
-            Refusal::AnswerNotNum => 15,
+        self as u8
+    }
+
+    // This refusal, at a place of the text.
+    pub fn at(self, place: usize) -> Fault
+        ensures { result ≡ fault self place }
+    {
+        Fault {
+            refusal: self,
+            place,
         }
     }
 }
@@ -67,3 +66,14 @@ pub struct Fault {
     pub refusal: Refusal,
     pub place: usize,
 }
+
+// Prints `refused N at P`.
+impl fmt::Display for Fault {
+    ghost output = { λ f. Some (fault_text f) };
+
+    fn fmt<W: fmt::Write>(&self, f: &mut fmt::Formatter<W>) -> fmt::Result {
+        write!(f, "refused {} at {}", self.refusal.number(), self.place)
+    }
+}
+
+impl Error for Fault {}

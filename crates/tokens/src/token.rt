@@ -1,6 +1,6 @@
 // Tokens: parts of the rule's text with their places.
 ghost use Rattle.std.specs.Prelude.{◌≡◌, ◌<◌, ◌≤◌, length};
-ghost use Rattle.tokens.specs.Tokens.{token_at, word_at, number_at, negative_at, grade_at, seen};
+ghost use Rattle.tokens.specs.Tokens.{token_at, word_at, signed_at, grade_at, seen};
 
 use crate::refusal::{Fault, Refusal};
 use grades::Written;
@@ -8,8 +8,9 @@ use text::{Class, integer, run_end};
 
 // The longest word.
 const LONGEST_WORD: usize = 16;
+
 // A token is a part of the text: a word, a number or a grade with its value, or the end of the text.
-#[derive(Clone, Copy)]
+#[derive(Clone, Copy, PartialEq, Eq, Debug)]
 pub enum Token<'a, G> {
     Word(&'a [u8]),
     Number(&'a [u8], i32),
@@ -18,7 +19,7 @@ pub enum Token<'a, G> {
 }
 
 // A token, its place, which is the count of bytes before it, and the place after it.
-#[derive(Clone, Copy)]
+#[derive(Clone, Copy, PartialEq, Eq, Debug)]
 pub struct Placed<'a, G> {
     pub token: Token<'a, G>,
     pub place: usize,
@@ -30,35 +31,29 @@ pub fn token_at<G: Written>(text: &[u8], from: usize) -> Result<Placed<'_, G>, F
     ensures { seen result ≡ token_at G.reading text.now from }
 {
     let place = run_end(text, from, Class::Blank);
-    if place >= text.len() {
+    let Some(first) = text.get(place) else {
         return Ok(Placed {
             token: Token::End,
             place,
             next: place,
         });
-    }
-    match text[place] as char {
+    };
+    match *first as char {
         'a'..='z' | 'A'..='Z' => word_at(text, place),
-        '0'..='9' => number_at(text, place),
-        '-' => negative_at(text, place),
+        '0'..='9' | '-' => number_at(text, place),
         '{' => grade_at(text, place),
-        _ => Err(Fault {
-            refusal: Refusal::NoToken,
-            place,
-        }),
+        _ => Err(Refusal::NoToken.at(place)),
     }
 }
 
+// A word: the longest run of letters, digits and `_`.
 fn word_at<G: Written>(text: &[u8], place: usize) -> Result<Placed<'_, G>, Fault>
     requires { place ≤ length text.now }
     ensures { seen result ≡ word_at G.reading text.now place }
 {
     let next = run_end(text, place, Class::Wordy);
     if next - place > LONGEST_WORD {
-        return Err(Fault {
-            refusal: Refusal::BadToken,
-            place,
-        });
+        return Err(Refusal::BadToken.at(place));
     }
     Ok(Placed {
         token: Token::Word(&text[place..next]),
@@ -67,73 +62,40 @@ fn word_at<G: Written>(text: &[u8], place: usize) -> Result<Placed<'_, G>, Fault
     })
 }
 
+// A number, with a `-` or without. A `-` alone is no token.
 fn number_at<G: Written>(text: &[u8], place: usize) -> Result<Placed<'_, G>, Fault>
-    requires { place ≤ length text.now }
-    ensures { seen result ≡ number_at G.reading text.now place }
-{
-    let next = run_end(text, place, Class::Digit);
-    let Some(n) = integer(&text[place..next], false) else {
-        return Err(Fault {
-            refusal: Refusal::BadToken,
-            place,
-        });
-    };
-    Ok(Placed {
-        token: Token::Number(&text[place..next], n),
-        place,
-        next,
-    })
-}
-
-// The byte at `place` is `-`.
-fn negative_at<G: Written>(text: &[u8], place: usize) -> Result<Placed<'_, G>, Fault>
     requires { place < length text.now }
-    ensures { seen result ≡ negative_at G.reading text.now place }
+    ensures { seen result ≡ signed_at G.reading text.now place }
 {
-    let next = run_end(text, place + 1, Class::Digit);
-    if next == place + 1 {
-        return Err(Fault {
-            refusal: Refusal::NoToken,
-            place,
-        });
+    let digits = place + usize::from(text[place] == b'-');
+    let next = run_end(text, digits, Class::Digit);
+    let number = &text[place..next];
+    if number == b"-".as_slice() {
+        return Err(Refusal::NoToken.at(place));
     }
-    let Some(n) = integer(&text[place + 1..next], true) else {
-        return Err(Fault {
-            refusal: Refusal::BadToken,
-            place,
-        });
-    };
+    let n = integer(number).ok_or(Refusal::BadToken.at(place))?;
     Ok(Placed {
-        token: Token::Number(&text[place..next], n),
+        token: Token::Number(number, n),
         place,
         next,
     })
 }
 
-// The byte at `place` is `{`.
+// A grade: `{`, which stands at `place`, its writing, and `}`.
 fn grade_at<G: Written>(text: &[u8], place: usize) -> Result<Placed<'_, G>, Fault>
     requires { place < length text.now }
     ensures { seen result ≡ grade_at G.reading text.now place }
 {
     let close = run_end(text, place + 1, Class::Inside);
     if close >= text.len() {
-        return Err(Fault {
-            refusal: Refusal::BadGrade,
-            place,
-        });
+        return Err(Refusal::BadGrade.at(place));
     }
     let inside = &text[place + 1..close];
     let Some((g, n)) = G::read(inside) else {
-        return Err(Fault {
-            refusal: Refusal::BadGrade,
-            place,
-        });
+        return Err(Refusal::BadGrade.at(place));
     };
     if n != inside.len() {
-        return Err(Fault {
-            refusal: Refusal::BadGrade,
-            place,
-        });
+        return Err(Refusal::BadGrade.at(place));
     }
     Ok(Placed {
         token: Token::Grade(&text[place..close + 1], g),

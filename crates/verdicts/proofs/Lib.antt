@@ -1,4 +1,3 @@
-mod Prints
 mod Alike
 mod Cleared
 mod Marked

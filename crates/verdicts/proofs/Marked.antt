@@ -41,9 +41,9 @@ module _ {G : Type 0} (a : Ghosts G) (laws : Laws a.nil a.unit a.plus a.times a.
         append-nil _ ∙ zeros_same a.nil s.program.grades s.list (subst (Cleared a.nil) (sym read.stored) (ruled_cleared a.nil read.rule start (λ k h. zeros k))) in
         let same : length s.list ≡ length list = ap (λ z. length z.list) read.stored ∙ ruled_long read.rule start in
         let after = zeros_from a.nil s.program.grades s.list ++ [] in
-        let m = model Loaded s.program in
+        let m = model Loaded s.program None in
         let x = program_judged a s.program after None work in
-        let tells = (correctly a laws m None after work x.0 x.1 x.2 refl (record { long = omega (arith, ap length kept); wide = wide; there = (read_closed reading a.unit text list s e enough).1; unjudged = refl })).accepts in
+        let tells = (correctly a laws m after work x.0 x.1 x.2 refl (record { long = omega (arith, ap length kept); wide = wide; there = (read_closed reading a.unit text list s e enough).1; unjudged = refl })).accepts in
         let nameless = λ (l : List G). Acceptable a (rule_in a.nil [] l s.program) in (
           λ ok. record {
             rule = read.rule;

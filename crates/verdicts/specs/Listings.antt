@@ -3,7 +3,7 @@ use Rattle.std.specs.Prelude.{ℕ, List, [], ◌∷◌, ◌++◌, replicate, Ok,
 use Rattle.tokens.specs.declared.refusal.Fault.{Fault}
 use Rattle.tokens.specs.Refusals.{number_of}
 use Rattle.grades.specs.declared.algebra.Algebra.{Ghosts}
-use Rattle.session.specs.Sessions.{Model, no_rule, unjudged, loaded, session_judged}
+use Rattle.session.specs.Sessions.{Model, no_rule, loaded, session_judged}
 use Rattle.verdicts.specs.Marks.{accepted_line}
 
 -- `refused N at P`
@@ -18,7 +18,7 @@ verdict_line (Err f) = refusal_line f
 module _ {G : Type 0} (a : Ghosts G) where
   -- a load that was not refused is followed by a judging
   abbrev pub judged_after : List G → Result (Unit {0}) Fault × Model × List G → Result (Unit {0}) Fault
-  judged_after work (Ok _, m, list) = (session_judged a list m unjudged work).0
+  judged_after work (Ok _, m, list) = (session_judged a list m work).0
   judged_after work (Err f, m, list) = Err f
 
   -- the answer on a text, by a session and its lists

@@ -1,6 +1,5 @@
 // The line of the verdict on a rule: `accepted`, or the refusal.
 ghost use Rattle.std.specs.Prelude.{◌≡◌, ◌↔◌, replicate, IfOk};
-ghost use Rattle.session.specs.Sessions.{model_of};
 ghost use Rattle.verdicts.specs.Listings.{refusal_line, verdict_line, answer, listing};
 ghost use Rattle.verdicts.specs.Marks.{accepted_line, AcceptableText};
 
@@ -14,10 +13,8 @@ use tokens::Fault;
 pub fn refusal_printed(heap: Global, fault: Fault) -> Result<Vec<u8>, AllocError>
     ensures { IfOk result (λ v. v.items ≡ refusal_line fault) }
 {
-    let number = fault.refusal.number();
-    let place = fault.place;
-    let line = format!(in heap; "refused {number} at {place}\n")?;
-    Vec::from_slice(heap, line.as_bytes())
+    let line = format!(in heap; "{fault}\n")?;
+    Ok(line.into_bytes())
 }
 
 fn verdict_printed(heap: Global, verdict: Result<(), Fault>) -> Result<Vec<u8>, AllocError>
@@ -34,7 +31,7 @@ pub fn zeros<G: Written>(heap: Global, count: usize) -> Result<Vec<G>, AllocErro
     ensures { IfOk result (λ v. v.items ≡ replicate count G.Algebra.nil) }
 {
     let mut grades = Vec::new(heap);
-    while grades.len() < count {
+    for _ in 0..count {
         grades.push(G::zero())?;
     }
     Ok(grades)
@@ -47,7 +44,7 @@ fn verdict_on<G: Written>(
     grades: &mut [G],
     work: &mut [G],
 ) -> Result<(), Fault>
-    ensures { result ≡ answer G.Algebra G.reading text.now (model_of session.old) grades.old work.old }
+    ensures { result ≡ answer G.Algebra G.reading text.now session.old grades.old work.old }
 {
     session.load(text, grades)?;
     session.judge(grades, work)
@@ -62,11 +59,6 @@ pub fn listed<G: Written>(heap: Global, text: &[u8]) -> Result<Vec<u8>, AllocErr
     let mut session = Session::new(heap)?;
     let mut grades = zeros::<G>(heap, GRADES)?;
     let mut work = zeros::<G>(heap, WORK)?;
-    let verdict = verdict_on(
-        text,
-        &mut session,
-        grades.as_mut_slice(),
-        work.as_mut_slice(),
-    );
+    let verdict = verdict_on(text, &mut session, &mut grades, &mut work);
     verdict_printed(heap, verdict)
 }

@@ -1,5 +1,5 @@
 // The algebra of spans.
-ghost use Rattle.std.specs.Prelude.{◌≡◌};
+ghost use Rattle.std.specs.Prelude.{◌≡◌, ◌≤◌};
 ghost use Rattle.grades.specs.Spans.{spanned, span_between, span_sum, span_product, span_join, span_covers, span_taking};
 ghost use Rattle.grades.specs.SpanLaws.{span_laws};
 
@@ -20,8 +20,21 @@ impl Span {
             _ => None,
         }
     }
+
+    // The span of two ends of any size: above 9,999 a lower end becomes 9,999, and an upper end no limit.
+    #[tactic(auto, using(crate::specs::Ends::same_span))]
+    fn rounded(lower: u16, upper: u16) -> Span
+        requires { lower ≤ upper }
+        ensures { result ≡ spanned lower upper }
+    {
+        Span {
+            lower: lower.min(MOST),
+            upper: upper.min(NO_LIMIT),
+        }
+    }
 }
 
+#[tactic(auto, using(crate::specs::Ends::same_span))]
 impl Algebra for Span {
     ghost nil = { spanned 0 0 };
 
@@ -48,17 +61,14 @@ impl Algebra for Span {
     }
 
     fn sum(self, other: Span) -> Span {
-        Span {
-            lower: (self.lower + other.lower).min(MOST),
-            upper: (self.upper + other.upper).min(NO_LIMIT),
-        }
+        Span::rounded(self.lower + other.lower, self.upper + other.upper)
     }
 
     fn product(self, other: Span) -> Span {
-        Span {
-            lower: self.lower.saturating_mul(other.lower).min(MOST),
-            upper: self.upper.saturating_mul(other.upper).min(NO_LIMIT),
-        }
+        Span::rounded(
+            self.lower.saturating_mul(other.lower),
+            self.upper.saturating_mul(other.upper),
+        )
     }
 
     fn join(self, other: Span) -> Span {

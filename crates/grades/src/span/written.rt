@@ -1,5 +1,5 @@
 // The text of a span: both ends in decimal, with `*` for no limit, as `2..5` or `0..*`.
-ghost use Rattle.std.specs.Prelude.{◌≡◌, length};
+ghost use Rattle.std.specs.Prelude.{◌≡◌, ◌≤◌, length, IfSome};
 ghost use Rattle.text.specs.Put.{put, room_left};
 ghost use Rattle.grades.specs.SpanTexts.{number_at, upper_at, upper_writing, span_reading, span_writing};
 ghost use Rattle.grades.specs.SpanWords.{span_text};
@@ -10,7 +10,8 @@ use text::{Class, decimal, put_bytes, put_decimal, room_after_decimal, run_end};
 
 // The number that the digits at the front write, up to 9,999, with their count.
 fn number_at(bytes: &[u8]) -> Option<(u16, usize)>
-    ensures { result ≡ number_at bytes.now }
+    ensures number { result ≡ number_at bytes.now }
+    ensures within { IfSome result (λ r. (r.0 ≤ 9999) × (r.1 ≤ length bytes.now)) }
 {
     let len = run_end(bytes, 0, Class::Digit);
     let number = decimal(&bytes[..len], u32::from(MOST))?;
@@ -19,12 +20,13 @@ fn number_at(bytes: &[u8]) -> Option<(u16, usize)>
 
 // The upper end at the front, `*` or a number, with the length of its text.
 fn upper_at(bytes: &[u8]) -> Option<(u16, usize)>
-    ensures { result ≡ upper_at bytes.now }
+    ensures upper { result ≡ upper_at bytes.now }
+    ensures within { IfSome result (λ r. (r.0 ≤ 10000) × (r.1 ≤ length bytes.now)) }
 {
-    if !bytes.is_empty() && bytes[0] == b'*' {
-        return Some((NO_LIMIT, 1));
+    match bytes {
+        [b'*', ..] => Some((NO_LIMIT, 1)),
+        _ => number_at(bytes),
     }
-    number_at(bytes)
 }
 
 // What is left of `room` bytes after the upper end.
@@ -58,11 +60,8 @@ impl Written for Span {
 
     fn read(bytes: &[u8]) -> Option<(Span, usize)> {
         let (lower, len) = number_at(bytes)?;
-        let rest = &bytes[len..];
-        if !rest.starts_with(b"..") {
-            return None;
-        }
-        let (upper, more) = upper_at(&rest[2..])?;
+        let rest = bytes[len..].strip_prefix(b"..")?;
+        let (upper, more) = upper_at(rest)?;
         if lower > upper {
             return None;
         }

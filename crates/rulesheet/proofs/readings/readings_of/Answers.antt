@@ -1,22 +1,26 @@
-use Rattle.std.proofs.Common.{◌≡◌, true, false, length, vec_items, sym, ap, ◌∙◌, arith}
-use Rattle.rulesheet.proofs.Numbers.{again_past, again_on, answered, refused_at, done_with, refused_last}
+use Rattle.std.proofs.Common.{◌≡◌, length, vec_items, [], ◌∷◌, ◌++◌, sym, ◌∙◌, rules, tests}
+use Rattle.std.proofs.lemmas.List.{length_push}
+use Rattle.std.proofs.lemmas.Iterator.Consumers.{YieldsList-at, YieldsList-from_filter, YieldsList-turn, YieldsList-end}
+use Rattle.std.proofs.lemmas.Iterator.Splits.{YieldsList-from_slice_split}
+use Rattle.rulesheet.specs.Readings.{blank}
+use Rattle.rulesheet.proofs.Numbers.{has_bytes, begun, number_more, no_number, all_numbers}
 use Rattle.rulesheet.proofs.readings.readings_of.Goals as goal
-use Rattle.rulesheet.proofs.readings.readings_of.Goals.{then-is_blank+in_ok-add_word+else-not-branch, else-is_blank}
 
-pub loop-i-preserved : goal.loop-i-preserved
-loop-i-preserved c =
-    elim c.if-is_blank.branch [ then-is_blank+in_ok-add_word+else-not-branch w ↦ again_past c.args.line.now c.loop-i.start c.loop-i.i c.if-is_blank.start (vec_items c.loop-i.numbers) (vec_items c.if-is_blank.numbers) c.loop-i-test.true c.loop-i.invariant.0 (sym c.is_blank.ensures ∙ w.if-is_blank.true) (ap (λ v. (true, vec_items v)) w.numbers-is ∙ answered w.in_ok-add_word.field-0 true (vec_items w.add_word.new.numbers) _ w.if-not-branch.false w.in_ok-add_word.ensures) c.loop-i.invariant.1 w.start-is | else-is_blank w ↦ again_on c.args.line.now c.loop-i.start c.loop-i.i c.if-is_blank.start (vec_items c.loop-i.numbers) (vec_items c.if-is_blank.numbers) c.loop-i-test.true c.loop-i.invariant.0 (sym c.is_blank.ensures ∙ w.if-is_blank.false) c.loop-i.invariant.1 w.start-is (ap vec_items w.numbers-is) ]
+pub loop-word-init : goal.loop-word-init
+loop-word-init c = rw c.new-numbers.ensures.items (begun c.args.line.now)
 
-pub returns-then-not-branch : goal.returns-then-not-branch
-returns-then-not-branch c =
-    refused_at c.args.line.now c.loop-i.start c.loop-i.i (vec_items c.loop-i.numbers) (vec_items c.add_word.new.numbers) c.loop-i-test.true c.loop-i.invariant.0 (sym c.is_blank.ensures ∙ c.if-is_blank.true) (answered c.in_ok-add_word.field-0 false (vec_items c.add_word.new.numbers) _ c.if-not-branch.true c.in_ok-add_word.ensures) c.loop-i.invariant.1
+pub returns-in_default : goal.returns-in_default
+returns-in_default c =
+    let turn = YieldsList-turn (YieldsList-at c.into_iter-word-iterator.ensures.into_iter_gives (YieldsList-from_filter _ has_bytes (YieldsList-at c.filter-word-items.ensures.source (YieldsList-from_slice_split _ blank c.args.line.now c.split.ensures.rest c.split.ensures.done c.split.ensures.closure (λ x b q k. search (rules, tests)))) c.filter-word-items.ensures.closure (λ x b q k. search (rules, tests)))) c.loop-word.yielded _ c.loop-word.yielded_by _ _ c.in-Some.word c.in-Some.is c.next.ensures.steps in
+    no_number c.args.line.now (length c.loop-word.yielded) c.in-Some.word.now (vec_items c.loop-word.numbers) turn c.loop-word.invariant (sym c.in_default.is ∙ c.integer.ensures)
 
-pub returns-then-not-branch-2 : goal.returns-then-not-branch-2
-returns-then-not-branch-2 c =
-    let all : c.loop-i.i ≡ length c.args.line.now = omega arith in
-    refused_last c.args.line.now c.loop-i.start c.loop-i.i (vec_items c.loop-i.numbers) (vec_items c.add_word-2.new.numbers) all (answered c.in_ok-add_word-2.field-0 false (vec_items c.add_word-2.new.numbers) _ c.if-not-branch-2.true c.in_ok-add_word-2.ensures) c.loop-i.invariant.1
+pub loop-word-preserved : goal.loop-word-preserved
+loop-word-preserved c =
+    let turn = YieldsList-turn (YieldsList-at c.into_iter-word-iterator.ensures.into_iter_gives (YieldsList-from_filter _ has_bytes (YieldsList-at c.filter-word-items.ensures.source (YieldsList-from_slice_split _ blank c.args.line.now c.split.ensures.rest c.split.ensures.done c.split.ensures.closure (λ x b q k. search (rules, tests)))) c.filter-word-items.ensures.closure (λ x b q k. search (rules, tests)))) c.loop-word.yielded _ c.loop-word.yielded_by _ _ c.in-Some.word c.in-Some.is c.next.ensures.steps in
+    let pushed : vec_items c.push.new.self ≡ vec_items c.loop-word.numbers ++ c.in-Some-integer.number ∷ [] = search rules in
+    rw (length_push c.loop-word.yielded c.in-Some.word) (number_more c.args.line.now (length c.loop-word.yielded) c.in-Some.word.now (vec_items c.loop-word.numbers) turn c.loop-word.invariant c.in-Some-integer.number (vec_items c.push.new.self) c.in-Some-integer.ensures pushed)
 
 pub returns : goal.returns
 returns c =
-    let all : c.loop-i.i ≡ length c.args.line.now = omega arith in
-    done_with c.args.line.now c.loop-i.start c.loop-i.i (vec_items c.loop-i.numbers) (vec_items c.add_word-2.new.numbers) all (answered c.in_ok-add_word-2.field-0 true (vec_items c.add_word-2.new.numbers) _ c.if-not-branch-2.false c.in_ok-add_word-2.ensures) c.loop-i.invariant.1
+    let end = YieldsList-end (YieldsList-at c.into_iter-word-iterator.ensures.into_iter_gives (YieldsList-from_filter _ has_bytes (YieldsList-at c.filter-word-items.ensures.source (YieldsList-from_slice_split _ blank c.args.line.now c.split.ensures.rest c.split.ensures.done c.split.ensures.closure (λ x b q k. search (rules, tests)))) c.filter-word-items.ensures.closure (λ x b q k. search (rules, tests)))) c.loop-word.yielded _ c.loop-word.yielded_by _ _ c.in-None.is c.next.ensures.steps in
+    all_numbers c.args.line.now (length c.loop-word.yielded) (vec_items c.loop-word.numbers) end.1 c.loop-word.invariant

@@ -1,8 +1,5 @@
-use Rattle.std.proofs.Common.{◌≡◌, ◌-◌, ◌≤◌, replicate, vec_items, vec_len}
+use Rattle.std.proofs.Common.{◌≡◌, replicate, vec_items}
 use Rattle.verdicts.proofs.listing.zeros.Given as goal
 
-abbrev pub invariant-loop-grades : goal.invariant-loop-grades
-invariant-loop-grades g l = (vec_len l.grades ≤ l.count) × (vec_items l.grades ≡ replicate (vec_len l.grades) g.G.Algebra.nil)
-
-abbrev pub decreases-loop-grades : goal.decreases-loop-grades
-decreases-loop-grades g l = l.count - vec_len l.grades
+abbrev pub invariant-loop : goal.invariant-loop
+invariant-loop g l = vec_items l.grades ≡ replicate l.counter g.G.Algebra.nil

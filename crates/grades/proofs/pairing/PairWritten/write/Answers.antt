@@ -1,18 +1,7 @@
-use Rattle.std.proofs.Common.{◌++◌, codes, ◌∙◌, arith, rules}
-use Rattle.std.proofs.lemmas.List.{length-append}
-use Rattle.text.proofs.Puts.{put_none, put_second_none, put_thrice, room_at}
+use Rattle.std.proofs.Common.{codes, ◌∙◌, rules}
+use Rattle.text.proofs.Puts.{put_thrice, room_at}
 use Rattle.grades.specs.Pairs.{pair_writing}
 use Rattle.grades.proofs.pairing.PairWritten.write.Goals as goal
-
-pub returns-in_err-at : goal.returns-in_err-at
-returns-in_err-at g c =
-    let fits = room_at c.args.out.now c.args.at c.in_ok-room.room c.in_ok-room_after.field-0 (pair_writing g.A.Written.writing g.B.Written.writing c.args.self) c.in_ok-room.ensures.0 c.in_ok-room.ensures.1 c.in_ok-room_after.ensures in
-    absurd (put_none c.args.out.now c.write.new.out c.args.at (g.A.Written.writing c.args.self.first) (omega (arith, length-append (g.A.Written.writing c.args.self.first) (codes "|" ++ g.B.Written.writing c.args.self.second))) c.in_err-at.ensures)
-
-pub returns-in_err-at-2 : goal.returns-in_err-at-2
-returns-in_err-at-2 g c =
-    let fits = room_at c.args.out.now c.args.at c.in_ok-room.room c.in_ok-room_after.field-0 (pair_writing g.A.Written.writing g.B.Written.writing c.args.self) c.in_ok-room.ensures.0 c.in_ok-room.ensures.1 c.in_ok-room_after.ensures in
-    absurd (put_second_none c.args.out.now c.write.new.out c.put_bytes.new.out c.args.at c.in_ok-at.at (g.A.Written.writing c.args.self.first) (codes "|") (g.B.Written.writing c.args.self.second) fits c.in_ok-at.ensures (search (rules, c.in_err-at-2.ensures)))
 
 pub returns : goal.returns
 returns g c =

@@ -1,5 +1,5 @@
-use Rattle.std.proofs.Common.{◌≡◌, take, vec_items}
+use Rattle.std.proofs.Common.{◌≡◌, take}
 use Rattle.judge.proofs.table.TypeTable.fill.Given as goal
 
-abbrev pub invariant-loop-i : goal.invariant-loop-i
-invariant-loop-i l = vec_items l.self.types ≡ take l.i (vec_items l.program.types)
+abbrev pub invariant-loop-simple : goal.invariant-loop-simple
+invariant-loop-simple l = l.self.types.items ≡ take l.simple-index l.program.types.items

@@ -1,27 +1,9 @@
-use Rattle.std.proofs.Common.{length, vec_items, sym, ap, subst, arith, rules}
-use Rattle.std.proofs.lemmas.List.{length_push}
-use Rattle.language.specs.Tables.{TypesSound}
 use Rattle.language.specs.Reading.{tables_of}
-use Rattle.language.proofs.Sound.{types_push, nodes_more, type_fits}
+use Rattle.language.proofs.Sound.{types_added, nodes_beside_type}
 use Rattle.language.proofs.tables.Program.add_type.Goals as goal
 
-pub invariant_of-self : goal.invariant_of-self
-invariant_of-self c =
-    let s = c.args.self.now in
-    let items = c.push_reserved.ensures.items in
-    let longer = ap length items in
-    let more = length_push (vec_items s.types) c.args.simple in
-    record {
-      broom = s.broom;
-      troom = search rules;
-      nroom = s.nroom;
-      counted = omega arith;
-      named = s.named;
-      declared = s.declared;
-      inputsfew = s.inputsfew;
-      gradesfew = s.gradesfew;
-      wordsfew = s.wordsfew;
-      bsound = s.bsound;
-      tsound = subst (TypesSound s.grades) (sym items) (types_push _ _ _ s.tsound (type_fits (tables_of s) _ c.requires.fits));
-      nsound = nodes_more (length (vec_items s.binders)) _ (length (vec_items s.types)) _ (vec_items s.nodes) (omega arith) (omega arith) s.nsound;
-    }
+pub invariant_of-self-clause-types_sound : goal.invariant_of-self-clause-types_sound
+invariant_of-self-clause-types_sound c = types_added (tables_of c.args.self.now) c.args.simple c.args.self.now.types_sound c.requires.fits c.push_entry.ensures.items
+
+pub invariant_of-self-clause-nodes_sound : goal.invariant_of-self-clause-nodes_sound
+invariant_of-self-clause-nodes_sound c = nodes_beside_type (tables_of c.args.self.now) c.args.simple c.args.self.now.nodes_sound c.push_entry.ensures.items

@@ -1,19 +1,8 @@
-use Rattle.std.proofs.Common.{◌++◌, codes, decimal, ap, ◌∙◌, arith}
-use Rattle.std.proofs.lemmas.List.{length-append}
+use Rattle.std.proofs.Common.{codes, decimal, ap, ◌∙◌}
 use Rattle.text.specs.Put.{put}
-use Rattle.text.proofs.Puts.{put_none, put_second_none, put_thrice, room_at}
+use Rattle.text.proofs.Puts.{put_thrice, room_at}
 use Rattle.grades.specs.SpanTexts.{upper_writing, span_writing}
 use Rattle.grades.proofs.span.written.SpanWritten.write.Goals as goal
-
-pub returns-in_err-at : goal.returns-in_err-at
-returns-in_err-at c =
-    let fits = room_at c.args.out.now c.args.at c.in_ok-room.room c.in_ok-room_after.field-0 (span_writing c.args.self) c.in_ok-room.ensures.0 c.in_ok-room.ensures.1 c.in_ok-room_after.ensures in
-    absurd (put_none c.args.out.now c.put_decimal.new.out c.args.at (decimal c.args.self.lower) (omega (arith, length-append (decimal c.args.self.lower) (codes ".." ++ upper_writing c.args.self.upper))) (c.in_err-at.ensures ∙ ap (λ n. put c.args.out.now c.args.at (decimal n)) c.from.ensures))
-
-pub returns-in_err-at-2 : goal.returns-in_err-at-2
-returns-in_err-at-2 c =
-    let fits = room_at c.args.out.now c.args.at c.in_ok-room.room c.in_ok-room_after.field-0 (span_writing c.args.self) c.in_ok-room.ensures.0 c.in_ok-room.ensures.1 c.in_ok-room_after.ensures in
-    absurd (put_second_none c.args.out.now c.put_decimal.new.out c.put_bytes.new.out c.args.at c.in_ok-at.at (decimal c.args.self.lower) (codes "..") (upper_writing c.args.self.upper) fits (c.in_ok-at.ensures ∙ ap (λ n. put c.args.out.now c.args.at (decimal n)) c.from.ensures) c.in_err-at-2.ensures)
 
 pub returns : goal.returns
 returns c =

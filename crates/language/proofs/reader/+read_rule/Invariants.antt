@@ -1,4 +1,0 @@
-use Rattle.language.proofs.reader.+read_rule.Given as goal
-
-abbrev pub decreases-read_rule : goal.decreases-read_rule
-decreases-read_rule g l = l.left

@@ -1,4 +1,0 @@
-use Rattle.language.proofs.reader.+read_type.Given as goal
-
-abbrev pub decreases-read_type : goal.decreases-read_type
-decreases-read_type g l = l.depth
