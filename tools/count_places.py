@@ -5,7 +5,7 @@
     python3 tools/count_places.py -v     each place too
 
 Each count is of lines of crates/*/src that match, but for the twins and the facts of contracts, which are
-counted over whole functions. What is counted is a place to look at: the page says what became of it.
+counted over whole functions, and for answers and lemmas, which stand in crates/*/proofs. What is counted is a place to look at: the page says what became of it.
 """
 import difflib
 import glob

@@ -40,7 +40,8 @@ pub trait Algebra: Copy {
     fn join(self, other: Self) -> Self
         ensures { result ≡ lub self other };
 
-    // Whether the two are the same grade.
+    // Whether the two are the same grade. A method and no `Eq` bound, since it decides equality itself (`Decides`), which the
+    // laws of `Eq` alone do not say.
     fn same(self, other: Self) -> bool
         ensures { Decides result (self ≡ other) };
 
@@ -66,7 +67,8 @@ pub trait Written: Algebra {
     fn read(bytes: &[u8]) -> Option<(Self, usize)>
         ensures { result ≡ reading bytes.now };
 
-    // What is left of `room` bytes after the text of `self`, or nothing where it does not fit.
+    // What is left of `room` bytes after the text of `self`, or nothing where it does not fit: so a text of several parts is
+    // measured whole before `write` is called, which goes on at the place that the part before answers.
     fn room_after(self, room: usize) -> Option<usize>
         ensures { result ≡ room_left room (length (writing self)) };
 

@@ -73,7 +73,7 @@ impl Algebra for Level {
     }
 
     fn join(self, other: Level) -> Level {
-        self.min(other)
+        self.sum(other)
     }
 
     fn same(self, other: Level) -> bool {

@@ -7,7 +7,8 @@ pub mod written;
 // The largest number that an end can be.
 const MOST: u16 = 9999;
 
-// As an upper end: no limit. It is a number and no `None`, since sums, products, joins and covers compare and round it as one.
+// As an upper end: no limit. It is a number, since sum and product add, multiply and round it as one: an enum or `Option`
+// would need a match in both and in their definitions.
 const NO_LIMIT: u16 = 10_000;
 
 // From `lower` to `upper` reads.

@@ -17,7 +17,8 @@ impl ClosedProgram {
         Ok(ClosedProgram { program })
     }
 
-    // Reads the text of a rule, in place of any earlier one, and writes its grades into the grade list.
+    // Reads the text of a rule, in place of any earlier one, and writes its grades into the grade list. Both are the caller's,
+    // here as above: a struct of the two would be made for this one call.
     pub fn read<G: Written>(&mut self, text: &[u8], grades: &mut [G]) -> Result<(), Fault>
         ensures reads { (result, tables_of self.new.program, grades.new) ≡ program_read G.reading G.Algebra.unit G.Algebra.nil text.now (tables_of self.old.program) grades.old }
         ensures there { OnOk result (0 < length (tables_of self.new.program).nodes) }

@@ -7,3 +7,4 @@ pub mod Exits
 pub mod Nodes
 pub mod Inputs
 pub mod Rules
+pub mod Room

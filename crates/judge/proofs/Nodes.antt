@@ -18,6 +18,7 @@ use Rattle.grammar.proofs.Entries.{term-entry}
 use Rattle.typing.specs.Judging.{judged}
 use Rattle.judge.specs.declared.graded.GradedRule.{GradedRule}
 use Rattle.judge.specs.declared.table.TypeTable.{TypeTable}
+use Rattle.judge.specs.declared.usage.Usage.{Usage}
 use Rattle.judge.specs.Meaning.{term_in, term_at, part, node_at}
 use Rattle.judge.specs.Progress.{Ready, Grown, Judges, context_types}
 use Rattle.judge.proofs.Parts.{grown_within}
@@ -162,9 +163,9 @@ sum_opened a p {c} {types} i n left right below read either ready =
     either
 
 -- what judges a term judges every other that is judged so
-pub judges_as : {G : Type 0} {a : Ghosts G} {p : GradedRule G} {c : List SimpleType} {u : Tm G} (v : Tm G) {before after : TypeTable} (r : Result SimpleType Fault) {w : List G} → Judges a p c u before after r w → judged a (context_types a.nil p.grades.now before.types.items c) v ≡ judged a (context_types a.nil p.grades.now before.types.items c) u → functions u ≤ functions v → Judges a p c v before after r w
-judges_as {u = u} v {before} {after} r j same few = record { answer = j.answer ∙ sym same; grows = within r j.grows }
+pub judges_as : {G : Type 0} {a : Ghosts G} {p : GradedRule G} {c : List SimpleType} {u : Tm G} (v : Tm G) {before after : TypeTable} (r : Result (SimpleType × Usage G) Fault) → Judges a p c u before after r → judged a (context_types a.nil p.grades.now before.types.items c) v ≡ judged a (context_types a.nil p.grades.now before.types.items c) u → functions u ≤ functions v → Judges a p c v before after r
+judges_as {G} {u = u} v {before} {after} r j same few = record { answer = j.answer ∙ sym same; grows = within r j.grows }
   where
-    within : (q : Result SimpleType Fault) → IfOk q (λ s. Grown (functions u) before after × (type_sound 256 (length after.types.items) s ≡ true)) → IfOk q (λ s. Grown (functions v) before after × (type_sound 256 (length after.types.items) s ≡ true))
+    within : (q : Result (SimpleType × Usage G) Fault) → IfOk q (λ s. Grown (functions u) before after × (type_sound 256 (length after.types.items) s.0 ≡ true)) → IfOk q (λ s. Grown (functions v) before after × (type_sound 256 (length after.types.items) s.0 ≡ true))
     within (Ok s) g = (grown_within few g.0, g.1)
     within (Err f) g = tt

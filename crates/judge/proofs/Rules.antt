@@ -1,5 +1,5 @@
 -- Judging a rule, once its run term is judged. Assumes nothing.
-use Rattle.std.proofs.Common.{◌≡◌, ℕ, zero, suc, ◌-◌, ◌<◌, ◌≤◌, false, ◌||◌, ltb, List, [], ◌∷◌, ◌++◌, map, reverse, length, get_or, take, drop, replicate, is_some, Some, None, Ok, Err, Option, Result, sym, refl, ap, ◌∙◌, append-nil, arith}
+use Rattle.std.proofs.Common.{◌≡◌, ℕ, zero, suc, ◌-◌, ◌<◌, ◌≤◌, false, ◌||◌, ltb, List, [], ◌∷◌, ◌++◌, map, reverse, length, get_or, take, drop, replicate, is_some, Some, None, Ok, Err, Option, sym, refl, ap, ◌∙◌, append-nil, arith}
 use Rattle.std.proofs.lemmas.List.{get_or-replicate, length-replicate, length-take-le}
 use Rattle.std.proofs.lemmas.Bool.{cond-false, le-ltb, ne_eqb}
 use Rattle.tokens.specs.declared.refusal.Fault.{Fault}
@@ -20,18 +20,14 @@ use Rattle.typing.specs.Derivations.{input_types}
 use Rattle.typing.specs.Judging.{judged, answer, inputs_covered, rule_judged}
 use Rattle.judge.specs.declared.graded.GradedRule.{GradedRule}
 use Rattle.judge.specs.declared.table.TypeTable.{TypeTable}
+use Rattle.judge.specs.declared.usage.Usage.{Usage}
 use Rattle.judge.specs.Newest.{newest}
 use Rattle.judge.specs.Meaning.{type_in, node_at}
 use Rattle.judge.specs.Progress.{Ready, context_types}
 use Rattle.judge.specs.declared.verdict.Verdict.{Verdict}
 use Rattle.judge.specs.declared.verdict.Verdict.TheVariants.{Accepted, Refused}
-use Rattle.judge.specs.Programs.{rule_of, graded_rule, usages_of, concluded, once_judged, program_judged}
+use Rattle.judge.specs.Programs.{rule_of, graded_rule, concluded, once_judged, program_judged}
 use Rattle.judge.proofs.Inputs.{newest_reversed}
-
--- what is told of usages, by the answer
-pub told : {G : Type 0} (u : List G) (n : ℕ) (r : Result (Unit {0}) Fault) → usages_of u n r ≡ (r then λ _. Ok (take n u))
-told u n (Ok _) = refl
-told u n (Err f) = refl
 
 inputs_many : {G : Type 0} (nil : G) (list : List G) (bs : List Binder) (u : Tm G) → rule_inputs (inputs_in nil [] list bs (run u)) ≡ length bs
 inputs_many nil list [] u = refl
@@ -97,10 +93,17 @@ module _ {G : Type 0} (a : Ghosts G) (p : GradedRule G) (c : List SimpleType) (i
     pub no_answer : {g : G} {A B : Ty G} {u : List G} → Ok (to g A B, u) ≡ judged a (context_types a.nil p.grades.now types.types.items c) term → rule_judged a rule ≡ Err (fault AnswerNotNum (place_of term))
     no_answer e = chain ∙ goes_on _ _ _ e
 
-    pub run_judged : (u : List G) (r : Result (Unit {0}) Fault) → inputs ≤ length u → Ok (num, newest a.nil u (length c)) ≡ judged a (context_types a.nil p.grades.now types.types.items c) term → r ≡ inputs_covered a rule (take inputs u) → usages_of u inputs r ≡ rule_judged a rule
-    run_judged u r long e tested =
-        let ordered : reverse (newest a.nil u (length c)) ≡ take inputs u = ap (λ n. reverse (newest a.nil u n)) many ∙ newest_reversed a.nil u inputs long in
-        told u inputs r ∙ ap (λ q. q then λ _. Ok (take inputs u)) tested ∙ sym (chain ∙ goes_on _ _ _ e ∙ ap (λ us. inputs_covered a rule us then λ _. Ok us) ordered)
+    module _ (u : Usage G) (long : inputs ≤ length u.grades) (e : Ok (num, newest a.nil u.grades (length c)) ≡ judged a (context_types a.nil p.grades.now types.types.items c) term) where
+      tested : rule_judged a rule ≡ (inputs_covered a rule (take inputs u.grades) then λ _. Ok (take inputs u.grades))
+      tested =
+          let ordered : reverse (newest a.nil u.grades (length c)) ≡ take inputs u.grades = ap (λ n. reverse (newest a.nil u.grades n)) many ∙ newest_reversed a.nil u.grades inputs long in
+          chain ∙ goes_on _ _ _ e ∙ ap (λ us. inputs_covered a rule us then λ _. Ok us) ordered
+
+      pub input_fails : {f : Fault} → Err f ≡ inputs_covered a rule (take inputs u.grades) → rule_judged a rule ≡ Err f
+      input_fails h = tested ∙ ends _ _ _ h
+
+      pub run_judged : {q : Unit {0}} → Ok q ≡ inputs_covered a rule (take inputs u.grades) → Ok (take inputs u.grades) ≡ rule_judged a rule
+      run_judged h = sym (tested ∙ goes_on _ _ _ h)
 
 -- nothing stands in the way of judging
 module _ {G : Type 0} (a : Ghosts G) (t : Tables) (list work : List G) (v : Option Verdict) (long : 256 ≤ length list) (wide : 2592 ≤ length work) (there : 0 < length t.nodes) where

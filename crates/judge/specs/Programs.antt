@@ -9,13 +9,14 @@ use Rattle.grammar.specs.Syntax.{Rule}
 use Rattle.grammar.specs.Recovering.{rule_in}
 use Rattle.typing.specs.Judging.{rule_judged}
 use Rattle.judge.specs.declared.graded.GradedRule.{GradedRule}
+use Rattle.judge.specs.declared.usage.Usage.{Usage}
 use Rattle.judge.specs.declared.verdict.Verdict.{Verdict}
 use Rattle.judge.specs.declared.verdict.Verdict.TheVariants.{Accepted, Refused}
 
 -- the usages of the first inputs
-abbrev pub usages_of : {G : Type 0} → List G → ℕ → Result (Unit {0}) Fault → Result (List G) Fault
-usages_of u n (Ok _) = Ok (take n u)
-usages_of u n (Err f) = Err f
+abbrev pub usages_of : {G : Type 0} → ℕ → Result (Usage G) Fault → Result (List G) Fault
+usages_of n (Ok u) = Ok (take n u.grades)
+usages_of n (Err f) = Err f
 
 -- an answer, the verdict and the work list
 abbrev pub Judged : Type 0 → Type 0
@@ -26,6 +27,7 @@ module _ {G : Type 0} (a : Ghosts G) where
   abbrev pub rule_of : Tables → List G → Rule G
   rule_of t list = rule_in a.nil [] list t
 
+  -- the same, by the struct that a judging reads
   abbrev pub graded_rule : GradedRule G → Rule G
   graded_rule p = rule_of (tables_of p.rule.now.program) p.grades.now
 

@@ -14,6 +14,7 @@ use Rattle.grades.specs.declared.algebra.Algebra.{Ghosts}
 use Rattle.typing.specs.Judging.{Judgement, judged, number, both}
 use Rattle.judge.specs.declared.graded.GradedRule.{GradedRule}
 use Rattle.judge.specs.declared.table.TypeTable.{TypeTable}
+use Rattle.judge.specs.declared.usage.Usage.{Usage}
 use Rattle.judge.specs.Newest.{newest}
 use Rattle.judge.specs.Meaning.{type_in, part, node_at}
 
@@ -50,32 +51,32 @@ module _ {G : Type 0} (nil : G) (list : List G) where
   context_types types context = map (type_in nil list types) context
 
   -- a type, and the usages of the open binders
-  abbrev pub judgement_of : List SimpleType → ℕ → List G → Result SimpleType Fault → Result (Judgement G) Fault
-  judgement_of types n u (Ok s) = Ok (type_in nil list types s, newest nil u n)
-  judgement_of types n u (Err f) = Err f
+  abbrev pub judgement_of : List SimpleType → ℕ → Result (SimpleType × Usage G) Fault → Result (Judgement G) Fault
+  judgement_of types n (Ok (s, u)) = Ok (type_in nil list types s, newest nil u.grades n)
+  judgement_of types n (Err f) = Err f
 
-abbrev pub usage_of : {G : Type 0} → G → ℕ → List G → Result (Unit {0}) Fault → Result (List G) Fault
-usage_of nil n u (Ok _) = Ok (newest nil u n)
-usage_of nil n u (Err f) = Err f
+abbrev pub usage_of : {G : Type 0} → G → ℕ → Result (Usage G) Fault → Result (List G) Fault
+usage_of nil n (Ok u) = Ok (newest nil u.grades n)
+usage_of nil n (Err f) = Err f
 
 module _ {G : Type 0} (a : Ghosts G) (p : GradedRule G) (context : List SimpleType) where
-  -- r and v are the judgement of the term u, with which the table of types has grown
-  pub record Judges (u : Tm G) (before after : TypeTable) (r : Result SimpleType Fault) (v : List G) : Type 0 where
-    pub answer : judgement_of a.nil p.grades.now after.types.items (length context) v r ≡ judged a (context_types a.nil p.grades.now before.types.items context) u
-    pub grows : IfOk r (λ s. Grown (functions u) before after × (type_sound 256 (length after.types.items) s ≡ true))
+  -- r is the judgement of the term u, with which the table of types has grown
+  pub record Judges (u : Tm G) (before after : TypeTable) (r : Result (SimpleType × Usage G) Fault) : Type 0 where
+    pub answer : judgement_of a.nil p.grades.now after.types.items (length context) r ≡ judged a (context_types a.nil p.grades.now before.types.items context) u
+    pub grows : IfOk r (λ j. Grown (functions u) before after × (type_sound 256 (length after.types.items) j.0 ≡ true))
 
   -- the usage of the term u, which has to be a number
   abbrev pub number_judged : TypeTable → Tm G → Result (List G) Fault
   number_judged types u = judged a (context_types a.nil p.grades.now types.types.items context) u then number (place_of u)
 
-  -- r and v are the usage that is due, with which the table of types has grown by so many at most
-  pub record Uses (due : Result (List G) Fault) (most : ℕ) (before after : TypeTable) (r : Result (Unit {0}) Fault) (v : List G) : Type 0 where
-    pub answer : usage_of a.nil (length context) v r ≡ due
+  -- r is the usage that is due, with which the table of types has grown by so many at most
+  pub record Uses (due : Result (List G) Fault) (most : ℕ) (before after : TypeTable) (r : Result (Usage G) Fault) : Type 0 where
+    pub answer : usage_of a.nil (length context) r ≡ due
     pub grows : IfOk r (λ _. Grown most before after)
 
   -- that of one number, and of two
-  abbrev pub JudgesNumber : Tm G → TypeTable → TypeTable → Result (Unit {0}) Fault → List G → Type 0
+  abbrev pub JudgesNumber : Tm G → TypeTable → TypeTable → Result (Usage G) Fault → Type 0
   JudgesNumber u before = Uses (number_judged before u) (functions u) before
 
-  abbrev pub JudgesNumbers : Tm G → Tm G → TypeTable → TypeTable → Result (Unit {0}) Fault → List G → Type 0
+  abbrev pub JudgesNumbers : Tm G → Tm G → TypeTable → TypeTable → Result (Usage G) Fault → Type 0
   JudgesNumbers s u before = Uses (both a (number_judged before s) (number_judged before u)) (functions s + functions u) before

@@ -10,6 +10,7 @@ ghost use Rattle.judge.specs.Programs.{graded_rule, usages_of, program_judged};
 
 use crate::graded::GradedRule;
 use crate::table::TypeTable;
+use crate::usage::Usage;
 use crate::verdict::Verdict;
 use grades::Algebra;
 use grammar::ClosedProgram;
@@ -40,28 +41,28 @@ impl<G: Algebra> GradedRule<'_, G> {
         types: &mut TypeTable,
         context: &Scope<'_, SimpleType>,
         inputs: usize,
-        usage: &mut [G; 32],
-    ) -> Result<SimpleType, Fault>
+    ) -> Result<(SimpleType, Usage<G>), Fault>
         requires { Ready self.now (replicate inputs Num ++ scope_items context.now) types.old (run_node G.Algebra.nil self.now) }
-        ensures { Judges G.Algebra self.now (replicate inputs Num ++ scope_items context.now) (run_node G.Algebra.nil self.now) types.old types.new result usage.new }
+        ensures { Judges G.Algebra self.now (replicate inputs Num ++ scope_items context.now) (run_node G.Algebra.nil self.now) types.old types.new result }
     {
         if inputs == 0 {
-            return self.judge_term(types, context, self.rule.program.nodes.len() - 1, usage);
+            return self.judge_term(types, context, self.rule.program.nodes.len() - 1);
         }
         let inner = Scope::Inside(SimpleType::Num, &*context);
-        self.judge_run(types, &inner, inputs - 1, usage)
+        self.judge_run(types, &inner, inputs - 1)
     }
 
-    // The usages of the inputs, the outermost first.
-    fn judge_rule(&self, types: &mut TypeTable, usage: &mut [G; 32]) -> Result<(), Fault>
-        ensures { usages_of usage.new self.now.rule.now.program.inputs result ≡ rule_judged G.Algebra (graded_rule G.Algebra self.now) }
+    // The usage of the run term, where it is a number and each input covers its own.
+    fn judge_rule(&self, types: &mut TypeTable) -> Result<Usage<G>, Fault>
+        ensures { usages_of self.now.rule.now.program.inputs result ≡ rule_judged G.Algebra (graded_rule G.Algebra self.now) }
     {
         let program = &self.rule.program;
         types.fill(program);
-        match self.judge_run(types, &Scope::Empty, program.inputs, usage)? {
+        let (answer, usage) = self.judge_run(types, &Scope::Empty, program.inputs)?;
+        match answer {
             SimpleType::Num => {
-                let (usages, _) = usage.split_at(program.inputs);
-                self.cover_inputs(usages)
+                self.cover_inputs(usage.first(program.inputs))?;
+                Ok(usage)
             }
             SimpleType::To { .. } => {
                 Err(Refusal::AnswerNotNum.at(self.place(program.nodes.len() - 1)))
@@ -102,16 +103,15 @@ pub fn judge_program<G: Algebra>(
         return Err(Refusal::AlreadyJudged.at(0));
     }
     let graded = GradedRule { rule, grades };
-    let mut usage = [G::zero(); 32];
-    match graded.judge_rule(types, &mut usage) {
-        Ok(()) => {
+    match graded.judge_rule(types) {
+        Ok(usage) => {
             *verdict = Some(Verdict::Accepted);
-            report(&mut work[..WORK], &usage[..rule.program.inputs]);
+            report(&mut work[..WORK], usage.first(rule.program.inputs));
             Ok(())
         }
         Err(fault) => {
             *verdict = Some(Verdict::Refused);
-            report(&mut work[..WORK], &usage[..0]);
+            report(&mut work[..WORK], &[]);
             Err(fault)
         }
     }

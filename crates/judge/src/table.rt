@@ -4,7 +4,8 @@ ghost use Rattle.language.specs.Tables.{TypesSound};
 
 use language::SimpleType;
 
-// The types of a program, and behind them the results of functions. Each type refers to older ones.
+// The types of a program, and behind them the results of functions. Each type refers to older ones, by index, since a
+// session takes no memory once it is made.
 #[derive(Drop)]
 pub struct TypeTable {
     pub(crate) types: Vec<SimpleType>,

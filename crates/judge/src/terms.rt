@@ -6,14 +6,13 @@ ghost use Rattle.judge.specs.Progress.{ReadyNode, ReadyTerm, Judges, JudgesNumbe
 
 use crate::graded::GradedRule;
 use crate::table::TypeTable;
-use crate::usage::{add, join, scale, use_none, use_once};
+use crate::usage::Usage;
 use grades::Algebra;
 use language::{Binder, Scope, SimpleType, Term};
 use tokens::{Fault, Refusal};
 
-// The context of a term is the types of the open binders. Its usage is written into `usage`.
-// Both stay arguments, since a part has its own; so does the table of types, since a struct that held it as a `&mut` would
-// need a clause on that loan in each contract.
+// The context of a term is the types of the open binders. It stays an argument, since a part has its own. So does the table
+// of types: in the struct, as a `&mut`, it would cost each contract a clause on that loan, for one parameter less.
 impl<G: Algebra> GradedRule<'_, G> {
     // The type of the term number `node`.
     #[cycle(judging)]
@@ -22,42 +21,38 @@ impl<G: Algebra> GradedRule<'_, G> {
         types: &mut TypeTable,
         context: &Scope<'_, SimpleType>,
         node: usize,
-        usage: &mut [G; 32],
-    ) -> Result<SimpleType, Fault>
+    ) -> Result<(SimpleType, Usage<G>), Fault>
         requires { ReadyNode G.Algebra.nil self.now (scope_items context.now) types.old node }
-        ensures { Judges G.Algebra self.now (scope_items context.now) (node_at G.Algebra.nil self.now node) types.old types.new result usage.new }
+        ensures { Judges G.Algebra self.now (scope_items context.now) (node_at G.Algebra.nil self.now node) types.old types.new result }
     {
         match self.rule.program.nodes[node].term {
             Term::Name(k) => {
-                use_once(usage, context.len() - 1 - k);
-                Ok(context.get(k).unwrap())
+                let usage = Usage::once(context.len() - 1 - k);
+                Ok((context.get(k).unwrap(), usage))
             }
-            Term::Number(_) => {
-                use_none(usage);
-                Ok(SimpleType::Num)
-            }
+            Term::Number(_) => Ok((SimpleType::Num, Usage::none())),
             Term::Fn {
                 binder,
                 domain,
                 body,
-            } => self.judge_fn(types, context, binder, domain, body, usage),
+            } => self.judge_fn(types, context, binder, domain, body),
             Term::Call { function, argument } => {
-                self.judge_call(types, context, function, argument, usage)
+                self.judge_call(types, context, function, argument)
             }
             Term::Add { left, right } | Term::Sub { left, right } => {
-                self.judge_numbers(types, context, left, right, usage)?;
-                Ok(SimpleType::Num)
+                let usage = self.judge_numbers(types, context, left, right)?;
+                Ok((SimpleType::Num, usage))
             }
             Term::Half { part } => {
-                self.judge_number(types, context, part, usage)?;
-                Ok(SimpleType::Num)
+                let usage = self.judge_number(types, context, part)?;
+                Ok((SimpleType::Num, usage))
             }
             Term::Less {
                 left,
                 right,
                 below,
                 otherwise,
-            } => self.judge_less(types, context, left, right, below, otherwise, usage),
+            } => self.judge_less(types, context, left, right, below, otherwise),
         }
     }
 
@@ -68,14 +63,13 @@ impl<G: Algebra> GradedRule<'_, G> {
         types: &mut TypeTable,
         context: &Scope<'_, SimpleType>,
         node: usize,
-        usage: &mut [G; 32],
-    ) -> Result<(), Fault>
+    ) -> Result<Usage<G>, Fault>
         requires { ReadyNode G.Algebra.nil self.now (scope_items context.now) types.old node }
-        ensures { JudgesNumber G.Algebra self.now (scope_items context.now) (node_at G.Algebra.nil self.now node) types.old types.new result usage.new }
+        ensures { JudgesNumber G.Algebra self.now (scope_items context.now) (node_at G.Algebra.nil self.now node) types.old types.new result }
     {
-        match self.judge_term(types, context, node, usage)? {
-            SimpleType::Num => Ok(()),
-            SimpleType::To { .. } => Err(Refusal::WrongType.at(self.place(node))),
+        match self.judge_term(types, context, node)? {
+            (SimpleType::Num, usage) => Ok(usage),
+            (SimpleType::To { .. }, _) => Err(Refusal::WrongType.at(self.place(node))),
         }
     }
 
@@ -87,16 +81,13 @@ impl<G: Algebra> GradedRule<'_, G> {
         context: &Scope<'_, SimpleType>,
         left: usize,
         right: usize,
-        usage: &mut [G; 32],
-    ) -> Result<(), Fault>
+    ) -> Result<Usage<G>, Fault>
         requires { ReadyTerm G.Algebra.nil self.now (scope_items context.now) types.old (Add left right) }
-        ensures { JudgesNumbers G.Algebra self.now (scope_items context.now) (node_at G.Algebra.nil self.now left) (node_at G.Algebra.nil self.now right) types.old types.new result usage.new }
+        ensures { JudgesNumbers G.Algebra self.now (scope_items context.now) (node_at G.Algebra.nil self.now left) (node_at G.Algebra.nil self.now right) types.old types.new result }
     {
-        self.judge_number(types, context, left, usage)?;
-        let mut second = *usage;
-        self.judge_number(types, context, right, &mut second)?;
-        add(usage, &second);
-        Ok(())
+        let first = self.judge_number(types, context, left)?;
+        let second = self.judge_number(types, context, right)?;
+        Ok(first.add(second))
     }
 
     // A function: its body, and then its binder.
@@ -108,27 +99,27 @@ impl<G: Algebra> GradedRule<'_, G> {
         binder: usize,
         domain: usize,
         body: usize,
-        usage: &mut [G; 32],
-    ) -> Result<SimpleType, Fault>
+    ) -> Result<(SimpleType, Usage<G>), Fault>
         requires { ReadyTerm G.Algebra.nil self.now (scope_items context.now) types.old (Fn binder domain body) }
-        ensures { Judges G.Algebra self.now (scope_items context.now) (part G.Algebra.nil self.now (Fn binder domain body)) types.old types.new result usage.new }
+        ensures { Judges G.Algebra self.now (scope_items context.now) (part G.Algebra.nil self.now (Fn binder domain body)) types.old types.new result }
     {
         let inner = Scope::Inside(self.rule.program.types[domain], &*context);
-        let result = self.judge_term(types, &inner, body, usage)?;
+        let (result, usage) = self.judge_term(types, &inner, body)?;
         let Binder {
             place,
             len: _,
             grade,
         } = self.rule.program.binders[binder];
-        if !self.grade(grade).covers(usage[context.len()]) {
+        if !self.grade(grade).covers(usage.get(context.len())) {
             return Err(Refusal::NotCovered.at(place));
         }
         let to = types.add(result);
-        Ok(SimpleType::To {
+        let arrow = SimpleType::To {
             grade,
             from: domain,
             to,
-        })
+        };
+        Ok((arrow, usage))
     }
 
     // A call: the function, which has to be one, and then the argument, which has to have the type of its domain.
@@ -139,23 +130,20 @@ impl<G: Algebra> GradedRule<'_, G> {
         context: &Scope<'_, SimpleType>,
         function: usize,
         argument: usize,
-        usage: &mut [G; 32],
-    ) -> Result<SimpleType, Fault>
+    ) -> Result<(SimpleType, Usage<G>), Fault>
         requires { ReadyTerm G.Algebra.nil self.now (scope_items context.now) types.old (Call function argument) }
-        ensures { Judges G.Algebra self.now (scope_items context.now) (part G.Algebra.nil self.now (Call function argument)) types.old types.new result usage.new }
+        ensures { Judges G.Algebra self.now (scope_items context.now) (part G.Algebra.nil self.now (Call function argument)) types.old types.new result }
     {
-        let called = self.judge_term(types, context, function, usage)?;
+        let (called, usage) = self.judge_term(types, context, function)?;
         let SimpleType::To { grade, from, to } = called else {
             return Err(Refusal::WrongType.at(self.place(function)));
         };
-        let mut often = *usage;
-        let given = self.judge_term(types, context, argument, &mut often)?;
+        let (given, once) = self.judge_term(types, context, argument)?;
         if !self.same_type(types, given, types.get(from)) {
             return Err(Refusal::TypesDiffer.at(self.place(argument)));
         }
-        scale(&mut often, self.grade(grade));
-        add(usage, &often);
-        Ok(types.get(to))
+        let often = once.scale(self.grade(grade));
+        Ok((types.get(to), usage.add(often)))
     }
 
     // A comparison: two numbers, and then two parts of one type, of which one will be run.
@@ -168,21 +156,16 @@ impl<G: Algebra> GradedRule<'_, G> {
         right: usize,
         below: usize,
         otherwise: usize,
-        usage: &mut [G; 32],
-    ) -> Result<SimpleType, Fault>
+    ) -> Result<(SimpleType, Usage<G>), Fault>
         requires { ReadyTerm G.Algebra.nil self.now (scope_items context.now) types.old (Less left right below otherwise) }
-        ensures { Judges G.Algebra self.now (scope_items context.now) (part G.Algebra.nil self.now (Less left right below otherwise)) types.old types.new result usage.new }
+        ensures { Judges G.Algebra self.now (scope_items context.now) (part G.Algebra.nil self.now (Less left right below otherwise)) types.old types.new result }
     {
-        self.judge_numbers(types, context, left, right, usage)?;
-        let mut first = *usage;
-        let branch = self.judge_term(types, context, below, &mut first)?;
-        let mut second = *usage;
-        let other = self.judge_term(types, context, otherwise, &mut second)?;
+        let usage = self.judge_numbers(types, context, left, right)?;
+        let (branch, first) = self.judge_term(types, context, below)?;
+        let (other, second) = self.judge_term(types, context, otherwise)?;
         if !self.same_type(types, other, branch) {
             return Err(Refusal::TypesDiffer.at(self.place(otherwise)));
         }
-        join(&mut first, &second);
-        add(usage, &first);
-        Ok(branch)
+        Ok((branch, usage.add(first.join(second))))
     }
 }

@@ -12,7 +12,7 @@ pub enum TypeHead {
     To,
 }
 
-// The words that two terms follow.
+// The words that two terms follow. An enum and no closure: it is what was read, and definitions speak of it.
 #[derive(Clone, Copy, PartialEq, Eq, Debug)]
 pub enum Binary {
     Call,
@@ -22,7 +22,7 @@ pub enum Binary {
 
 impl Binary {
     // The term with these two parts.
-    pub(crate) fn of(self, left: usize, right: usize) -> Term
+    pub(crate) fn term(self, left: usize, right: usize) -> Term
         ensures { result ≡ binary self left right }
     {
         match self {

@@ -1,6 +1,7 @@
 // What a rule is stored as: binders, types and terms, each in a table of its own, which refer to each other by index.
 
 // A binder: its name is `len` bytes of the text from `place` on, and its grade stands at `grade` in the grade list.
+// Place, length and index stand for what they name, since a session keeps neither the text nor the list of grades.
 #[derive(Clone, Copy, PartialEq, Eq, Debug)]
 pub struct Binder {
     pub place: usize,

@@ -1,10 +1,10 @@
 // The reader: from a rule's text to the tables of a program and the rule's grades.
 ghost use Rattle.std.specs.Prelude.{◌≡◌, ◌+◌, ◌^◌, ◌<◌, ◌≤◌, length, replicate, IfOk};
-ghost use Rattle.tokens.specs.Tokens.{lexeme};
-ghost use Rattle.language.specs.Reading.{told, tables_of, state_of, with_grade, graded, name_of, type_head, term_head, rule_head, grade_of, ended, binder, named, binder_grade, bound_of, simple_type, term, term_parts, rule, no_tables, text_read, program_read};
+ghost use Rattle.tokens.specs.Tokens.{lexeme, seen, token_at};
+ghost use Rattle.language.specs.Reading.{told, tables_of, state_of, graded, name_of, type_head, term_head, rule_head, grade_of, ended, binder, named, binder_grade, bound_of, simple_type, term, term_parts, rule, no_tables, text_read, program_read};
 ghost use Rattle.language.specs.Scopes.{scope_items, open_names};
 ghost use Rattle.language.specs.Growth.{Grown, TermFits};
-ghost use Rattle.language.specs.Readers.{tables_in, state_in, GoesOn};
+ghost use Rattle.language.specs.Readers.{tables_in, state_in, GoesOn, StoresGrade};
 
 use crate::heads::{Binary, Parsed, RuleHead, TermHead, TypeHead};
 use crate::program::{Binder, Node, SimpleType, Term};
@@ -12,7 +12,7 @@ use crate::reading::Reader;
 use crate::scope::Scope;
 use crate::tables::{GRADES, Program};
 use grades::{Algebra, Written};
-use tokens::{Fault, Keyword, Refusal, Token, keyword_of, token_at};
+use tokens::{Fault, Keyword, Placed, Refusal, Token, keyword_of, token_at};
 
 // The longest text, the most inputs, and the depth of the deepest term or type.
 const LONGEST_TEXT: usize = 16_384;
@@ -22,37 +22,39 @@ const MOST_INPUTS: usize = 8;
 const MOST_DEPTH: usize = 24;
 
 // A binder's name: any word but those of the language.
-fn name_of<'a, G: Written>(token: Token<'a, G>, place: usize) -> Result<&'a [u8], Fault>
-    ensures { named result ≡ name_of (lexeme token.entry) place }
+fn name_of<'a, G: Written>(placed: &Placed<'a, G>) -> Result<&'a [u8], Fault>
+    ensures { named result ≡ name_of (lexeme placed.now.token) placed.now.place }
 {
-    match token {
+    match placed.token {
         Token::Word(word) if keyword_of(word).is_none() => Ok(word),
-        _ => Err(Refusal::Unexpected.at(place)),
+        _ => Err(Refusal::Unexpected.at(placed.place)),
     }
 }
 
-fn type_head<G: Written>(token: Token<'_, G>, place: usize) -> Result<TypeHead, Fault>
-    ensures { result ≡ type_head (lexeme token.entry) place }
+// What begins a type. It has the shape of `rule_head`, with words and a definition of its own: one function over a closure
+// from the word to the head would be longer than both, since a clause would have to tie the closure to the definitions.
+fn type_head<G: Written>(placed: &Placed<'_, G>) -> Result<TypeHead, Fault>
+    ensures { result ≡ type_head (lexeme placed.now.token) placed.now.place }
 {
-    match token {
+    match placed.token {
         Token::Word(word) => match keyword_of(word) {
             Some(Keyword::Num) => Ok(TypeHead::Num),
             Some(Keyword::To) => Ok(TypeHead::To),
-            _ => Err(Refusal::Unexpected.at(place)),
+            _ => Err(Refusal::Unexpected.at(placed.place)),
         },
-        _ => Err(Refusal::Unexpected.at(place)),
+        _ => Err(Refusal::Unexpected.at(placed.place)),
     }
 }
 
+// What begins a term, where the names of `scope` are open.
 fn term_head<G: Written>(
-    token: Token<'_, G>,
-    place: usize,
+    placed: &Placed<'_, G>,
     scope: &Scope<'_, &[u8]>,
 ) -> Result<TermHead, Fault>
     requires { length (scope_items scope.now) < 2 ^ 64 }
-    ensures { result ≡ term_head (open_names scope.now) (lexeme token.entry) place }
+    ensures { result ≡ term_head (open_names scope.now) (lexeme placed.now.token) placed.now.place }
 {
-    match token {
+    match placed.token {
         Token::Word(word) => match keyword_of(word) {
             Some(Keyword::Fn) => Ok(TermHead::Fn),
             Some(Keyword::Call) => Ok(TermHead::Binary(Binary::Call)),
@@ -60,51 +62,53 @@ fn term_head<G: Written>(
             Some(Keyword::Sub) => Ok(TermHead::Binary(Binary::Sub)),
             Some(Keyword::Half) => Ok(TermHead::Half),
             Some(Keyword::Less) => Ok(TermHead::Less),
-            Some(_) => Err(Refusal::Unexpected.at(place)),
+            Some(_) => Err(Refusal::Unexpected.at(placed.place)),
             None => scope
                 .index_of(word)
                 .map(TermHead::Name)
-                .ok_or(Refusal::NotOpen.at(place)),
+                .ok_or(Refusal::NotOpen.at(placed.place)),
         },
         Token::Number(_, value) => Ok(TermHead::Number(value)),
-        _ => Err(Refusal::Unexpected.at(place)),
+        _ => Err(Refusal::Unexpected.at(placed.place)),
     }
 }
 
-fn rule_head<G: Written>(token: Token<'_, G>, place: usize) -> Result<RuleHead, Fault>
-    ensures { result ≡ rule_head (lexeme token.entry) place }
+// What begins an input or the run term, in the shape of `type_head`, and for the same reason apart from it.
+fn rule_head<G: Written>(placed: &Placed<'_, G>) -> Result<RuleHead, Fault>
+    ensures { result ≡ rule_head (lexeme placed.now.token) placed.now.place }
 {
-    match token {
+    match placed.token {
         Token::Word(word) => match keyword_of(word) {
             Some(Keyword::Input) => Ok(RuleHead::Input),
             Some(Keyword::Run) => Ok(RuleHead::Run),
-            _ => Err(Refusal::Unexpected.at(place)),
+            _ => Err(Refusal::Unexpected.at(placed.place)),
         },
-        _ => Err(Refusal::Unexpected.at(place)),
+        _ => Err(Refusal::Unexpected.at(placed.place)),
     }
 }
 
 // A grade that has to be there.
-fn grade_of<G: Written>(token: Token<'_, G>, place: usize) -> Result<G, Fault>
-    ensures { result ≡ grade_of (lexeme token.entry) place }
+fn grade_of<G: Written>(placed: &Placed<'_, G>) -> Result<G, Fault>
+    ensures { result ≡ grade_of (lexeme placed.now.token) placed.now.place }
 {
-    match token {
+    match placed.token {
         Token::Grade(_, g) => Ok(g),
-        _ => Err(Refusal::Unexpected.at(place)),
+        _ => Err(Refusal::Unexpected.at(placed.place)),
     }
 }
 
 // The end of the text, which has to be there.
-fn ended<G: Written>(token: Token<'_, G>, place: usize) -> Result<(), Fault>
-    ensures { result ≡ ended (lexeme token.entry) place }
+fn ended<G: Written>(placed: &Placed<'_, G>) -> Result<(), Fault>
+    ensures { result ≡ ended (lexeme placed.now.token) placed.now.place }
 {
-    match token {
+    match placed.token {
         Token::End => Ok(()),
-        _ => Err(Refusal::Unexpected.at(place)),
+        _ => Err(Refusal::Unexpected.at(placed.place)),
     }
 }
 
-// A binder that was read and is not stored yet, its name, and the place after it in the text.
+// A binder that was read and is not stored yet, its name, and the place after it in the text. Its two values have names, so
+// it is no `Parsed` of a pair.
 #[derive(Clone, Copy, PartialEq, Eq, Debug)]
 pub struct Bound<'t> {
     pub name: &'t [u8],
@@ -113,11 +117,18 @@ pub struct Bound<'t> {
 }
 
 impl<'t, G: Written> Reader<'t, '_, G> {
+    // The first token at or after the place `at`.
+    fn token(&self, at: usize) -> Result<Placed<'t, G>, Fault>
+        ensures { seen result ≡ token_at G.reading self.now.text.now at }
+    {
+        token_at(self.text, at)
+    }
+
     // The next place in the grade list takes the grade, and is answered.
     fn add_grade(&mut self, g: G, place: usize) -> Result<usize, Fault>
         ensures on { GoesOn self.old self.new }
         ensures reads { told result (state_in self.new) ≡ graded g place (state_in self.old) }
-        ensures stores { IfOk result (λ i. (i ≡ (tables_in self.old).grades) × (tables_in self.new ≡ with_grade (tables_in self.old))) }
+        ensures stores { IfOk result (StoresGrade self.old self.new) }
     {
         let index = self.program.grades;
         if index >= GRADES {
@@ -128,13 +139,13 @@ impl<'t, G: Written> Reader<'t, '_, G> {
         Ok(index)
     }
 
-    // The grade of the binder whose name ends at `behind`: the token after it, or that of one read where it is no grade.
+    // The grade of the binder whose name ends at `behind`: the token after it, or the grade one where that token is no grade.
     fn read_grade(&mut self, place: usize, behind: usize) -> Result<Parsed<usize>, Fault>
         ensures on { GoesOn self.old self.new }
         ensures reads { told result (state_in self.new) ≡ binder_grade G.reading self.old.text.now G.Algebra.unit place behind (state_in self.old) }
-        ensures stores { IfOk result (λ p. (p.value ≡ (tables_in self.old).grades) × (tables_in self.new ≡ with_grade (tables_in self.old))) }
+        ensures stores { IfOk result (λ p. StoresGrade self.old self.new p.value) }
     {
-        let after = token_at::<G>(self.text, behind)?;
+        let after = self.token(behind)?;
         let (g, place, next) = match after.token {
             Token::Grade(_, g) => (g, after.place, after.next),
             _ => (G::one(), place, behind),
@@ -147,10 +158,10 @@ impl<'t, G: Written> Reader<'t, '_, G> {
     fn read_binder(&mut self, at: usize) -> Result<Bound<'t>, Fault>
         ensures on { GoesOn self.old self.new }
         ensures reads { told (bound_of result) (state_in self.new) ≡ binder G.reading self.old.text.now G.Algebra.unit at (state_in self.old) }
-        ensures stores { IfOk result (λ b. (b.binder.grade ≡ (tables_in self.old).grades) × (tables_in self.new ≡ with_grade (tables_in self.old))) }
+        ensures stores { IfOk result (λ b. StoresGrade self.old self.new b.binder.grade) }
     {
-        let first = token_at::<G>(self.text, at)?;
-        let name = name_of(first.token, first.place)?;
+        let first = self.token(at)?;
+        let name = name_of(&first)?;
         let grade = self.read_grade(first.place, first.next)?;
         Ok(Bound {
             name,
@@ -169,8 +180,8 @@ impl<'t, G: Written> Reader<'t, '_, G> {
         ensures reads { told result (state_in self.new) ≡ simple_type G.reading self.old.text.now depth at (state_in self.old) }
         ensures grows { IfOk result (λ p. Grown 0 (tables_in self.old) (tables_in self.new) × (p.value < length (tables_in self.new).types)) }
     {
-        let first = token_at::<G>(self.text, at)?;
-        let head = type_head(first.token, first.place)?;
+        let first = self.token(at)?;
+        let head = type_head(&first)?;
         let inner = self.program.count_word(depth, first.place)?;
         match head {
             TypeHead::Num => {
@@ -181,8 +192,8 @@ impl<'t, G: Written> Reader<'t, '_, G> {
                 })
             }
             TypeHead::To => {
-                let second = token_at::<G>(self.text, first.next)?;
-                let g = grade_of(second.token, second.place)?;
+                let second = self.token(first.next)?;
+                let g = grade_of(&second)?;
                 let grade = self.add_grade(g, second.place)?;
                 let from = self.read_type(second.next, inner)?;
                 let to = self.read_type(from.next, inner)?;
@@ -212,9 +223,9 @@ impl<'t, G: Written> Reader<'t, '_, G> {
         ensures reads { told result (state_in self.new) ≡ term G.reading self.old.text.now G.Algebra.unit depth (open_names scope.now) at (state_in self.old) }
         ensures grows { IfOk result (λ p. Grown 0 (tables_in self.old) (tables_in self.new) × (p.value < length (tables_in self.new).nodes)) }
     {
-        let first = token_at::<G>(self.text, at)?;
+        let first = self.token(at)?;
         let place = first.place;
-        let head = term_head(first.token, place, scope)?;
+        let head = term_head(&first, scope)?;
         let inner = self.program.count_word(depth, place)?;
         let parts = self.read_parts(head, first.next, inner, scope)?;
         let value = self.program.add_node(Node {
@@ -255,6 +266,7 @@ impl<'t, G: Written> Reader<'t, '_, G> {
                 let Bound { name, binder, next } = self.read_binder(next)?;
                 let binder = self.program.add_binder(binder);
                 let domain = self.read_type(next, inner)?;
+                // `&*scope`: a borrowed parameter is laid into a value only when it is lent again
                 let within = Scope::Inside(name, &*scope);
                 let body = self.read_term(domain.next, inner, &within)?;
                 Ok(Parsed {
@@ -266,11 +278,11 @@ impl<'t, G: Written> Reader<'t, '_, G> {
                     next: body.next,
                 })
             }
-            TermHead::Binary(form) => {
+            TermHead::Binary(binary) => {
                 let left = self.read_term(next, inner, scope)?;
                 let right = self.read_term(left.next, inner, scope)?;
                 Ok(Parsed {
-                    value: form.of(left.value, right.value),
+                    value: binary.term(left.value, right.value),
                     next: right.next,
                 })
             }
@@ -311,12 +323,12 @@ impl<'t, G: Written> Reader<'t, '_, G> {
         ensures on { GoesOn self.old self.new }
         ensures reads { told result (state_in self.new) ≡ rule G.reading self.old.text.now G.Algebra.unit left (open_names scope.now) at (state_in self.old) }
     {
-        let first = token_at::<G>(self.text, at)?;
-        match rule_head(first.token, first.place)? {
+        let first = self.token(at)?;
+        match rule_head(&first)? {
             RuleHead::Run => {
                 let run = self.read_term(first.next, MOST_DEPTH, scope)?;
-                let last = token_at::<G>(self.text, run.next)?;
-                ended(last.token, last.place)
+                let last = self.token(run.next)?;
+                ended(&last)
             }
             RuleHead::Input => {
                 if left == 0 {

@@ -8,6 +8,6 @@ pub(crate) struct Reader<'t, 's, G> {
     pub(crate) text: &'t [u8],
     pub(crate) program: &'s mut Program,
     pub(crate) grades: &'s mut [G],
-    // a rule has at most so many grades
+    // the list has 256 places
     ghost list: { length grades.now ≡ 256 },
 }

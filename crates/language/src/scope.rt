@@ -4,6 +4,8 @@ ghost use Rattle.std.specs.List.{slice_get};
 ghost use Rattle.language.specs.Scopes.{scope_items, open_names, find};
 
 // A scope: nothing is open, or one more binder is open inside another scope.
+// Clone and Copy alone: the check states no derived equality of a type that leads back to itself through a borrow, and has
+// no proof of a derived Debug.
 #[derive(Clone, Copy)]
 pub enum Scope<'a, T> {
     Empty,
@@ -11,7 +13,7 @@ pub enum Scope<'a, T> {
 }
 
 impl<T: Copy> Scope<'_, T> {
-    // How many binders are open.
+    // How many binders are open. A type that leads back to itself has no ghost field, so the bound stands at the calls.
     pub fn len(&self) -> usize
         requires { length (scope_items self.now) < 2 ^ 64 }
         ensures { result ≡ length (scope_items self.now) }

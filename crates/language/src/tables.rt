@@ -8,7 +8,9 @@ use crate::program::{Binder, Node, SimpleType};
 pub const GRADES: usize = 256;
 
 // A session takes no memory after it is made, so a rule lies in tables whose entries refer to each other by index, and
-// not in a tree of boxes.
+// not in a tree of boxes. Its fields are public, plain data that the judge, the grammar and tests read, so it has no
+// `impl Model`. `inputs`, `grades` and `words` are no lengths of its tables: they count the binders that are inputs, the
+// grades in the list that the caller lends, and the words of the text.
 #[derive(Drop)]
 pub struct Program {
     // the inputs in order, and then the functions' binders in the order of the text

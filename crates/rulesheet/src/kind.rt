@@ -1,7 +1,10 @@
 // The kinds of grades that the program knows by name.
-ghost use Rattle.std.specs.Prelude.{◌≡◌};
-ghost use Rattle.rulesheet.specs.Kinds.{kind_of};
+ghost use Rattle.rulesheet.specs.Kinds.{Names};
 
+use std::error::Error;
+use std::fmt;
+
+// An enum, and a `match` on it in `run`, since a closure cannot stand for a type argument.
 #[derive(Clone, Copy, Debug, PartialEq, Eq)]
 pub enum Kind {
     Span,
@@ -9,14 +12,29 @@ pub enum Kind {
     SpanAndLevel,
 }
 
-// The kind that a line names. What is wrong with another line is for the caller to say, so this is no `TryFrom`.
-pub fn kind_of(line: &[u8]) -> Option<Kind>
-    ensures { result ≡ kind_of line.now }
-{
-    match line {
-        b"span" => Some(Kind::Span),
-        b"level" => Some(Kind::Level),
-        b"span|level" => Some(Kind::SpanAndLevel),
-        _ => None,
+// A line that names no kind.
+#[derive(Clone, Copy, Debug, PartialEq, Eq)]
+pub struct UnknownKind;
+
+impl TryFrom<&[u8]> for Kind {
+    type Error = UnknownKind;
+
+    ghost try_from_gives = { λ line r. Names line.now r };
+
+    fn try_from(line: &[u8]) -> Result<Kind, UnknownKind> {
+        match line {
+            b"span" => Ok(Kind::Span),
+            b"level" => Ok(Kind::Level),
+            b"span|level" => Ok(Kind::SpanAndLevel),
+            _ => Err(UnknownKind),
+        }
     }
 }
+
+impl fmt::Display for UnknownKind {
+    fn fmt<W: fmt::Write>(&self, f: &mut fmt::Formatter<W>) -> fmt::Result {
+        f.write_str("the first line has to be the kind of the grades: span, level or span|level")
+    }
+}
+
+impl Error for UnknownKind {}

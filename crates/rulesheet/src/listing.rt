@@ -52,7 +52,8 @@ fn add_line<G: Written>(
     Ok(())
 }
 
-// The line `read`, and then the line of each input.
+// The line `read`, and then the line of each input. Text and grade list are the caller's, here as in each call of a session: a
+// struct of the two would be made for one call.
 fn inputs_printed<G: Written>(
     heap: Global,
     text: &[u8],

@@ -9,14 +9,12 @@ mod readings;
 
 use anyhow::{Context, Result};
 use grades::{Level, Pair, Span};
-use kind::{Kind, kind_of};
+use kind::Kind;
 use lines::first_line;
 use listing::listed;
 use readings::readings_of;
 use std::io::{Read, Write};
 use std::process::ExitCode;
-
-const BAD_KIND: &str = "the first line has to be the kind of the grades: span, level or span|level";
 
 const BAD_READINGS: &str =
     "the second line has to be readings: whole numbers from -2147483648 to 2147483647, with blanks between";
@@ -27,7 +25,7 @@ fn run(rt: &HostRuntime) -> Result<()> {
     rt.stdin().read_to_end(&mut input)?;
     let (first, rest) = first_line(input.as_slice());
     let (second, text) = first_line(rest);
-    let kind = kind_of(first).context(BAD_KIND)?;
+    let kind = Kind::try_from(first)?;
     let _readings = readings_of(heap, second)?.context(BAD_READINGS)?;
     let out = match kind {
         Kind::Span => listed::<Span>(heap, text)?,

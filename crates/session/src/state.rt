@@ -6,6 +6,8 @@ use std::marker::Model;
 
 // The tables of a rule, how far the session has come, the verdict, if the rule is judged, and the room for judging it.
 // The grades of a rule stand in lists that its user brings; a session holds everything else.
+// The verdict stands beside the phase, since `judge_program`, which knows no session, takes the `Option` alone: one enum of
+// both would be taken apart for it and put together after.
 #[derive(Drop)]
 pub struct Session {
     pub(crate) rule: ClosedProgram,

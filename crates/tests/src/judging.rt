@@ -212,7 +212,7 @@ impl Fixture {
     // A session without a rule, and a list of the grade.
     fn new(heap: Global, grade: Span) -> Result<Fixture, AllocError> {
         let session = Session::new(heap)?;
-        let grades = grades_of(heap, grade, GRADES)?;
+        let grades = grades_of(heap, grade, 256)?;
         Ok(Fixture {
             heap,
             session,
@@ -221,7 +221,7 @@ impl Fixture {
     }
 
     // Checks what a load comes to.
-    fn load(&mut self, text: &str, due: Result<(), Fault>) -> Result<(), Fail> {
+    fn expect_load(&mut self, text: &str, due: Result<(), Fault>) -> Result<(), Fail> {
         let got = self
             .session
             .load(text.as_bytes(), self.grades.as_mut_slice());
@@ -229,7 +229,7 @@ impl Fixture {
     }
 
     // Checks a judging that is refused, and writes nothing into its work list of so many places.
-    fn keeps(&mut self, places: usize, refusal: Refusal, text: &str) -> Result<(), Fail> {
+    fn expect_kept(&mut self, places: usize, refusal: Refusal, text: &str) -> Result<(), Fail> {
         let mut work = grades_of(self.heap, <Span as Algebra>::one(), places)?;
         let got = self
             .session
@@ -239,7 +239,7 @@ impl Fixture {
     }
 
     // Checks a judging of a rule that has no inputs, or is refused.
-    fn clears(&mut self, due: Result<(), Fault>, text: &str) -> Result<(), Fail> {
+    fn expect_cleared(&mut self, due: Result<(), Fault>, text: &str) -> Result<(), Fail> {
         let mut work = grades_of(self.heap, <Span as Algebra>::one(), WORK + 1)?;
         let got = self
             .session
@@ -249,20 +249,20 @@ impl Fixture {
     }
 
     // Checks that lists with a place too few are refused, and leave the work list.
-    fn refuses_short_lists(&mut self, text: &str) -> Result<(), Fail> {
-        let short = grades_of(self.heap, <Span as Algebra>::one(), GRADES - 1)?;
-        let mut work = grades_of(self.heap, <Span as Algebra>::one(), WORK + 1)?;
+    fn expect_short_lists_refused(&mut self, text: &str) -> Result<(), Fail> {
+        let short = grades_of(self.heap, <Span as Algebra>::one(), 255)?;
+        let mut work = grades_of(self.heap, <Span as Algebra>::one(), 2593)?;
         let got = self.session.judge(short.as_slice(), work.as_mut_slice());
         expect_answer(got, Err(ShortList.at(0)), text)?;
-        expect_grades(work.as_slice(), 0, WORK + 1, <Span as Algebra>::one(), text)?;
-        self.keeps(WORK - 1, ShortList, text)
+        expect_grades(work.as_slice(), 0, 2593, <Span as Algebra>::one(), text)?;
+        self.expect_kept(2591, ShortList, text)
     }
 
     // Checks a load and two judgings, of which the second is one too many.
-    fn judges_once(&mut self, text: &str, due: Result<(), Fault>) -> Result<(), Fail> {
-        self.load(text, Ok(()))?;
-        self.clears(due, text)?;
-        self.keeps(WORK + 1, AlreadyJudged, text)
+    fn expect_judged_once(&mut self, text: &str, due: Result<(), Fault>) -> Result<(), Fail> {
+        self.expect_load(text, Ok(()))?;
+        self.expect_cleared(due, text)?;
+        self.expect_kept(2593, AlreadyJudged, text)
     }
 }
 
@@ -270,25 +270,25 @@ impl Fixture {
 #[test]
 fn before_a_load(rt: HostRuntime) -> Result<(), Fail> {
     let mut fixture = Fixture::new(rt.alloc(), <Span as Algebra>::one())?;
-    fixture.refuses_short_lists("")?;
-    fixture.keeps(WORK + 1, NoProgram, "")?;
-    fixture.load("run", Err(Unexpected.at(3)))?;
-    fixture.keeps(WORK + 1, NoProgram, "run")
+    fixture.expect_short_lists_refused("")?;
+    fixture.expect_kept(2593, NoProgram, "")?;
+    fixture.expect_load("run", Err(Unexpected.at(3)))?;
+    fixture.expect_kept(2593, NoProgram, "run")
 }
 
 // The lists are tested before the verdict, and lists that are just long enough will do.
 #[test]
 fn shortest_lists(rt: HostRuntime) -> Result<(), Fail> {
     let mut fixture = Fixture::new(rt.alloc(), <Span as Algebra>::one())?;
-    fixture.load("run 5", Ok(()))?;
-    fixture.refuses_short_lists("run 5")?;
+    fixture.expect_load("run 5", Ok(()))?;
+    fixture.expect_short_lists_refused("run 5")?;
     let mut work = grades_of(rt.alloc(), <Span as Algebra>::one(), 2592)?;
     let got = fixture
         .session
         .judge(fixture.grades.as_slice(), work.as_mut_slice());
     expect_answer(got, Ok(()), "run 5")?;
     expect_grades(work.as_slice(), 0, 2592, <Span as Algebra>::zero(), "run 5")?;
-    fixture.refuses_short_lists("run 5")
+    fixture.expect_short_lists_refused("run 5")
 }
 
 // A rule is judged once per load, and a load that is refused for its list leaves the verdict.
@@ -296,24 +296,21 @@ fn shortest_lists(rt: HostRuntime) -> Result<(), Fail> {
 fn judged_once(rt: HostRuntime) -> Result<(), Fail> {
     let heap = rt.alloc();
     let mut fixture = Fixture::new(heap, <Span as Algebra>::zero())?;
-    fixture.judges_once("run 5", Ok(()))?;
-    fixture.judges_once("run call 5 6", Err(WrongType.at(9)))?;
+    fixture.expect_judged_once("run 5", Ok(()))?;
+    fixture.expect_judged_once("run call 5 6", Err(WrongType.at(9)))?;
     let mut short = grades_of(heap, <Span as Algebra>::zero(), 255)?;
     let got = fixture.session.load(b"run 5", short.as_mut_slice());
     expect_answer(got, Err(ShortList.at(0)), "run 5")?;
-    fixture.keeps(WORK + 1, AlreadyJudged, "run call 5 6")?;
-    fixture.judges_once("run 5", Ok(()))
+    fixture.expect_kept(2593, AlreadyJudged, "run call 5 6")?;
+    fixture.expect_judged_once("run 5", Ok(()))
 }
 
 // Checks the judging of a text after `1..1` is written into a place of the grade list.
 fn expect_changed(heap: Global, text: &str, i: usize, due: Result<(), Fault>) -> Result<(), Fail> {
     let mut fixture = Fixture::new(heap, <Span as Algebra>::zero())?;
-    fixture.load(text, Ok(()))?;
-    match fixture.grades.get_mut(i) {
-        Some(grade) => *grade = <Span as Algebra>::one(),
-        None => return Err(Fail::new("no such grade")),
-    }
-    fixture.clears(due, text)
+    fixture.expect_load(text, Ok(()))?;
+    *fixture.grades.get_mut(i).ok_or("no such grade")? = <Span as Algebra>::one();
+    fixture.expect_cleared(due, text)
 }
 
 // The grades are those found in the grade list, whoever wrote them.

@@ -67,6 +67,7 @@ fn nothing_changed_by_a_short_list(rt: HostRuntime) -> Result<(), Fail> {
         len: 3,
         grade: 0,
     };
+    assert_eq!(rt; session.inputs(), [binder].as_slice());
     assert_eq!(rt; session.input(0), Some(binder));
     assert_eq!(rt; session.input(1), None);
     Ok(())

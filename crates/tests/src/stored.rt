@@ -1,14 +1,14 @@
 // What is stored of a rule: binders, and terms behind their parts.
 use crate::helpers::grades_of;
 use grades::{Algebra, Span};
-use language::{Binder, GRADES, Node, Program, Term, read_program};
+use language::{Binder, Node, Program, Term, read_program};
 use std::alloc::Global;
 use std::test::Fail;
 
 // The program of a text, which is not refused.
 fn program_of(heap: Global, text: &[u8]) -> Result<Program, Fail> {
     let mut program = Program::new(heap)?;
-    let mut grades = grades_of(heap, <Span as Algebra>::zero(), GRADES)?;
+    let mut grades = grades_of(heap, <Span as Algebra>::zero(), 256)?;
     match read_program::<Span>(text, &mut program, grades.as_mut_slice()) {
         Ok(()) => Ok(program),
         Err(fault) => Err(Fail::new(format_args!("{fault}"))),
@@ -91,7 +91,7 @@ fn binders(rt: HostRuntime) -> Result<(), Fail> {
 #[test]
 fn nothing_of_a_refused_text(rt: HostRuntime) -> Result<(), Fail> {
     let mut program = program_of(rt.alloc(), b"input a run fn b num a")?;
-    let mut grades = grades_of(rt.alloc(), <Span as Algebra>::zero(), GRADES)?;
+    let mut grades = grades_of(rt.alloc(), <Span as Algebra>::zero(), 256)?;
     let read = read_program::<Span>(b"input a run b", &mut program, grades.as_mut_slice());
     assert!(rt; read.is_err());
     assert!(rt; program.inputs == 0 && program.grades == 0 && program.words == 0);

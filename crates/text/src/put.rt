@@ -1,4 +1,6 @@
 // Writing into a buffer: bytes, and numbers in decimal. What does not fit is not written.
+// Buffer and place are two parameters, and a `room_after` stands beside each `put`, since a text of several parts is measured
+// whole before its first byte is written, and each part goes on at the place that the one before answers.
 ghost use Rattle.std.specs.Prelude.{◌≡◌, length, decimal};
 ghost use Rattle.text.specs.Put.{put, room_left};
 
@@ -19,6 +21,7 @@ pub fn put_bytes(bytes: &[u8], out: &mut [u8], at: usize) -> Option<usize>
     if end > out.len() {
         return None;
     }
+    // by index, since after `get_mut` a proof knows the length alone
     out[at..end].copy_from_slice(bytes);
     Some(end)
 }

@@ -46,6 +46,7 @@ impl Refusal {
     pub fn number(self) -> u8
         ensures { result ≡ number_of self }
     {
+        // An enum has no `From` or `TryFrom` to its numbers, and `as` is proved to lose nothing.
         self as u8
     }
 

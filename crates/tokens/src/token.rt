@@ -38,7 +38,7 @@ pub fn token_at<G: Written>(text: &[u8], from: usize) -> Result<Placed<'_, G>, F
             next: place,
         });
     };
-    match *first as char {
+    match char::from(*first) {
         'a'..='z' | 'A'..='Z' => word_at(text, place),
         '0'..='9' | '-' => number_at(text, place),
         '{' => grade_at(text, place),
@@ -91,6 +91,7 @@ fn grade_at<G: Written>(text: &[u8], place: usize) -> Result<Placed<'_, G>, Faul
         return Err(Refusal::BadGrade.at(place));
     }
     let inside = &text[place + 1..close];
+    // `let .. else`, a form that docs/DECISIONS.md fixes for this place
     let Some((g, n)) = G::read(inside) else {
         return Err(Refusal::BadGrade.at(place));
     };

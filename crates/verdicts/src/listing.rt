@@ -1,4 +1,4 @@
-// The line of the verdict on a rule: `accepted`, or the refusal.
+// The line of the verdict on a rule, `accepted` or the refusal, and the lists that a session is given.
 ghost use Rattle.std.specs.Prelude.{◌≡◌, ◌↔◌, replicate, IfOk};
 ghost use Rattle.verdicts.specs.Listings.{refusal_line, verdict_line, answer, listing};
 ghost use Rattle.verdicts.specs.Marks.{accepted_line, AcceptableText};
@@ -30,6 +30,7 @@ fn verdict_printed(heap: Global, verdict: Result<(), Fault>) -> Result<Vec<u8>, 
 pub fn zeros<G: Written>(heap: Global, count: usize) -> Result<Vec<G>, AllocError>
     ensures { IfOk result (λ v. v.items ≡ replicate count G.Algebra.nil) }
 {
+    // a loop, since `vec!` clones, and a `Copy` bound does not say that a clone equals its source
     let mut grades = Vec::new(heap);
     for _ in 0..count {
         grades.push(G::zero())?;

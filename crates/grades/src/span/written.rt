@@ -15,6 +15,7 @@ fn number_at(bytes: &[u8]) -> Option<(u16, usize)>
 {
     let len = run_end(bytes, 0, Class::Digit);
     let number = decimal(&bytes[..len], u32::from(MOST))?;
+    // `as` is proved to lose nothing, and `try_from` would add an error that cannot come.
     Some((number as u16, len))
 }
 

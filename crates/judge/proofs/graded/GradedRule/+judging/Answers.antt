@@ -1,4 +1,4 @@
-use Rattle.std.proofs.Common.{◌≡◌, ◌-◌, ◌<◌, ◌≤◌, [], length, get_or, set, replicate, IsSome, Ok, Err, sym, refl, ap, ◌∙◌, subst, arith, rules}
+use Rattle.std.proofs.Common.{◌-◌, ◌<◌, ◌≤◌, [], length, get_or, set, replicate, IsSome, Ok, Err, sym, refl, ap, ◌∙◌, subst, arith, rules}
 use Rattle.std.proofs.lemmas.Option.{same_Some, slice_get-get_or}
 use Rattle.std.proofs.lemmas.List.{get_or_read}
 use Rattle.language.specs.declared.program.SimpleType.TheVariants.{Num}
@@ -68,7 +68,7 @@ judge_call-returns g t c =
     let first = c.in_ok-called.ensures in
     let second = c.in_ok-given.ensures in
     let few : length context ≤ 32 = omega (arith, c.requires.ready.levels) in
-    call_exit a p context 0 (node_at a.nil p c.args.function) (node_at a.nil p c.args.argument) c.requires.ready first c.in-To.grade c.in-To.from c.in-To.to c.in-To.is second c.get.ensures c.same_type.ensures c.scale.new.usage c.if-not-same_type.false c.get-2.ensures c.grade.ensures (c.scale.ensures _ few) (c.add.ensures _ few)
+    call_exit a p context 0 (node_at a.nil p c.args.function) (node_at a.nil p c.args.argument) c.requires.ready first c.in-To.grade c.in-To.from c.in-To.to c.in-To.is second c.get.ensures c.same_type.ensures c.scale-often.result c.if-not-same_type.false c.get-2.ensures c.grade.ensures (c.scale-often.ensures _ few) (c.add.ensures _ few)
 
 pub judge_fn-judge_term-requires : goal.judge_fn-judge_term-requires
 judge_fn-judge_term-requires g t c κs within =
@@ -90,6 +90,13 @@ judge_fn-returns-in_err-result g t c =
     let n = get_or tables.binders c.args.binder no_binder in
     body_fails_here a p context 0 (label_of [] n) (get_or p.grades.now n.grade a.nil) c.args.domain (node_at a.nil p c.args.body) c.index.result.now c.requires.ready inside (broke c.from_residual.result c.from_residual.ensures.1) c.in_err-result.ensures.answer
 
+pub judge_fn-grade-requires : goal.judge_fn-grade-requires
+judge_fn-grade-requires g t c =
+    let p = c.args.self.now in
+    let tables = tables_of p.rule.now.program in
+    let read = get_or_read tables.binders c.args.binder c.index-2.result.now c.requires.there.0 c.index-2.ensures no_binder in
+    omega (arith, ap (λ b. b.grade) read, p.rule.now.program.binders_sound c.args.binder c.requires.there.0, p.rule.now.program.few_grades)
+
 pub judge_fn-returns-then-not-covers : goal.judge_fn-returns-then-not-covers
 judge_fn-returns-then-not-covers g t c =
     let a = g.G.Algebra in
@@ -101,9 +108,7 @@ judge_fn-returns-then-not-covers g t c =
     let inside = context_inside c.args.domain below c.index.result.now domain c.requires.ready a.nil in
     let n = get_or tables.binders c.args.binder no_binder in
     let read = get_or_read tables.binders c.args.binder c.index-2.result.now c.requires.there.0 c.index-2.ensures no_binder in
-    let usage = c.judge_term.new.usage in
-    let wide : length usage ≡ 32 = c.type_inv.usage in
-    let tested = binder_tested a p.grades.now usage read c.len.ensures (omega (arith, c.requires.ready.levels)) c.grade.ensures c.index-usage-len.is c.covers.ensures in
+    let tested = binder_tested a p.grades.now _ read c.len.ensures c.grade.ensures c.get.ensures c.covers.ensures in
     binder_fails_here a p context 0 (label_of [] n) (get_or p.grades.now n.grade a.nil) c.args.domain (node_at a.nil p c.args.body) c.index.result.now c.requires.ready inside c.in_ok-result.ensures tested (ap Err (c.at.ensures ∙ ap (λ b. fault NotCovered b.place) read)) c.if-not-covers.true
 
 pub judge_fn-returns : goal.judge_fn-returns
@@ -117,9 +122,7 @@ judge_fn-returns g t c =
     let inside = context_inside c.args.domain below c.index.result.now domain c.requires.ready a.nil in
     let n = get_or tables.binders c.args.binder no_binder in
     let read = get_or_read tables.binders c.args.binder c.index-2.result.now c.requires.there.0 c.index-2.ensures no_binder in
-    let usage = c.judge_term.new.usage in
-    let wide : length usage ≡ 32 = c.type_inv.usage in
-    let tested = binder_tested a p.grades.now usage read c.len.ensures (omega (arith, c.requires.ready.levels)) c.grade.ensures c.index-usage-len.is c.covers.ensures in
+    let tested = binder_tested a p.grades.now _ read c.len.ensures c.grade.ensures c.get.ensures c.covers.ensures in
     let few : c.index-2.result.now.grade < 256 = omega (arith, ap (λ b. b.grade) read, p.rule.now.program.binders_sound c.args.binder c.requires.there.0, p.rule.now.program.few_grades) in
     fn_exit a p context 0 (label_of [] n) (get_or p.grades.now n.grade a.nil) c.args.domain (node_at a.nil p c.args.body) c.index.result.now c.requires.ready inside c.in_ok-result.ensures tested c.index-2.result.now.grade c.add-to.result c.add-to.new.self c.if-not-covers.false few (sym (ap (λ b. get_or p.grades.now b.grade a.nil) read)) below c.add-to.ensures.index c.add-to.ensures.after
 
@@ -128,14 +131,14 @@ judge_less-returns-in_err-branch g t c =
     let a = g.G.Algebra in
     let p = c.args.self.now in
     let context = scope_items c.args.context.now in
-    let first = c.in_ok-judge_numbers.ensures in
+    let first = c.in_ok-usage.ensures in
     branch_fails_here a p context 0 (node_at a.nil p c.args.left) (node_at a.nil p c.args.right) (node_at a.nil p c.args.below) (node_at a.nil p c.args.otherwise) c.requires.ready first (broke c.from_residual-in_err-branch.result c.from_residual-in_err-branch.ensures.1) c.in_err-branch.ensures.answer
 
 pub judge_less-judge_term-requires-2 : goal.judge_less-judge_term-requires-2
 judge_less-judge_term-requires-2 g t c κs within =
     let a = g.G.Algebra in
     let p = c.args.self.now in
-    let first = c.in_ok-judge_numbers.ensures in
+    let first = c.in_ok-usage.ensures in
     let second = c.in_ok-branch.ensures in
     (search rules, (search rules, (search rules, record { there = c.requires.there.3; ready = ready_next c.requires.ready (grown_on first.grows second.grows.0) (node_at a.nil p c.args.otherwise) (omega arith) (omega arith) (omega arith) })))
 
@@ -144,7 +147,7 @@ judge_less-returns-in_err-other g t c =
     let a = g.G.Algebra in
     let p = c.args.self.now in
     let context = scope_items c.args.context.now in
-    let first = c.in_ok-judge_numbers.ensures in
+    let first = c.in_ok-usage.ensures in
     let second = c.in_ok-branch.ensures in
     other_fails_here a p context 0 (node_at a.nil p c.args.left) (node_at a.nil p c.args.right) (node_at a.nil p c.args.below) (node_at a.nil p c.args.otherwise) c.requires.ready first second (broke c.from_residual-in_err-other.result c.from_residual-in_err-other.ensures.1) c.in_err-other.ensures.answer
 
@@ -159,7 +162,7 @@ judge_less-returns-then-not-same_type g t c =
     let a = g.G.Algebra in
     let p = c.args.self.now in
     let context = scope_items c.args.context.now in
-    let first = c.in_ok-judge_numbers.ensures in
+    let first = c.in_ok-usage.ensures in
     let second = c.in_ok-branch.ensures in
     let third = c.in_ok-other.ensures in
     branches_differ_here a p context 0 (node_at a.nil p c.args.left) (node_at a.nil p c.args.right) (node_at a.nil p c.args.below) (node_at a.nil p c.args.otherwise) c.requires.ready first second third c.same_type.ensures (ap Err (c.at.ensures ∙ ap (fault TypesDiffer) c.place.ensures)) c.if-not-same_type.true
@@ -169,31 +172,31 @@ judge_less-returns g t c =
     let a = g.G.Algebra in
     let p = c.args.self.now in
     let context = scope_items c.args.context.now in
-    let first = c.in_ok-judge_numbers.ensures in
+    let first = c.in_ok-usage.ensures in
     let second = c.in_ok-branch.ensures in
     let third = c.in_ok-other.ensures in
     let few : length context ≤ 32 = omega (arith, c.requires.ready.levels) in
-    less_exit a p context 0 (node_at a.nil p c.args.left) (node_at a.nil p c.args.right) (node_at a.nil p c.args.below) (node_at a.nil p c.args.otherwise) c.requires.ready first second third c.same_type.ensures c.join.new.usage c.if-not-same_type.false (c.join.ensures _ few) (c.add.ensures _ few)
+    less_exit a p context 0 (node_at a.nil p c.args.left) (node_at a.nil p c.args.right) (node_at a.nil p c.args.below) (node_at a.nil p c.args.otherwise) c.requires.ready first second third c.same_type.ensures c.join.result c.if-not-same_type.false (c.join.ensures _ few) (c.add.ensures _ few)
 
-pub judge_numbers-returns-in_err-judge_number-2 : goal.judge_numbers-returns-in_err-judge_number-2
-judge_numbers-returns-in_err-judge_number-2 g t c =
+pub judge_numbers-returns-in_err-second : goal.judge_numbers-returns-in_err-second
+judge_numbers-returns-in_err-second g t c =
     let a = g.G.Algebra in
     let p = c.args.self.now in
     let context = scope_items c.args.context.now in
     let types = c.args.types.now in
-    let first = c.in_ok-judge_number.ensures in
+    let first = c.in_ok-first.ensures in
     let left = number_judged a p context types (node_at a.nil p c.args.left) in
     let right = number_judged a p context types (node_at a.nil p c.args.right) in
-    refused_uses a p context (both a left right) _ types c.judge_number-2.new.types c.from_residual-in_err-judge_number-2.result c.judge_number.new.usage
-    (broke c.from_residual-in_err-judge_number-2.result c.from_residual-in_err-judge_number-2.ensures.1)
-    (second_fails a left right first.answer (c.in_err-judge_number-2.ensures.answer ∙ number_later a p context c.requires.ready first.grows (node_at a.nil p c.args.right)))
+    refused_uses a p context (both a left right) _ types c.judge_number-2.new.types c.from_residual-in_err-second.result
+    (broke c.from_residual-in_err-second.result c.from_residual-in_err-second.ensures.1)
+    (second_fails a left right first.answer (c.in_err-second.ensures.answer ∙ number_later a p context c.requires.ready first.grows (node_at a.nil p c.args.right)))
 
 pub judge_numbers-returns : goal.judge_numbers-returns
 judge_numbers-returns g t c =
     let a = g.G.Algebra in
     let p = c.args.self.now in
     let context = scope_items c.args.context.now in
-    numbers_exit a p context (node_at a.nil p c.args.left) (node_at a.nil p c.args.right) c.requires.ready c.in_ok-judge_number.ensures c.in_ok-judge_number-2.ensures (c.add.ensures (length context) (omega (arith, c.requires.ready.levels)))
+    numbers_exit a p context (node_at a.nil p c.args.left) (node_at a.nil p c.args.right) c.requires.ready c.in_ok-first.ensures c.in_ok-second.ensures (c.add.ensures (length context) (omega (arith, c.requires.ready.levels)))
 
 pub judge_term-overflow_sub-len : goal.judge_term-overflow_sub-len
 judge_term-overflow_sub-len g t c =
@@ -228,8 +231,8 @@ judge_term-returns-in-Name g t c =
     let below : k < length context = omega (arith, o.ready.names) in
     let found = same_Some _ _ (sym c.unwrap.ensures ∙ c.get.ensures ∙ slice_get-get_or context k Num below) in
     let sound = ap (type_sound 256 (length types.types.items)) found ∙ sound_wider 256 256 (length p.rule.now.program.types.items) (length types.types.items) (get_or context k Num) (omega arith) (declared_first o.ready) (o.ready.sound k below) in
-    let wrote = c.use_once.ensures ∙ ap (λ n. set (replicate 32 a.nil) (n - 1 - k) a.unit) c.len.ensures in
-    subst (λ u. Judges a p context u types types (Ok c.unwrap.result) c.use_once.new.usage) (sym o.is) (name_exit a p context types (omega (arith, o.ready.levels)) c.index.result.now.place k below found wrote sound)
+    let wrote = c.once-usage.ensures ∙ ap (λ n. set (replicate 32 a.nil) (n - 1 - k) a.unit) c.len.ensures in
+    subst (λ u. Judges a p context u types types (Ok (c.unwrap.result, c.once-usage.result))) (sym o.is) (name_exit a p context types (omega (arith, o.ready.levels)) c.index.result.now.place k below found wrote sound)
 
 pub judge_term-returns-in-Number : goal.judge_term-returns-in-Number
 judge_term-returns-in-Number g t c =
@@ -238,7 +241,7 @@ judge_term-returns-in-Number g t c =
     let context = scope_items c.args.context.now in
     let types = c.args.types.now in
     let o = opened a.nil p c.args.node c.index.result.now (Number c.in-Number.field-0) c.requires.there c.index.ensures c.in-Number.is c.requires.ready in
-    subst (λ u. Judges a p context u types types (Ok Num) c.use_none.new.usage) (sym o.is) (literal_exit a p context types (omega (arith, o.ready.levels)) c.index.result.now.place c.in-Number.field-0 c.use_none.ensures)
+    subst (λ u. Judges a p context u types types (Ok (Num, c.none.result))) (sym o.is) (literal_exit a p context types (omega (arith, o.ready.levels)) c.index.result.now.place c.in-Number.field-0 c.none.ensures)
 
 pub judge_term-judge_fn-requires : goal.judge_term-judge_fn-requires
 judge_term-judge_fn-requires g t c κs within =
@@ -255,7 +258,7 @@ judge_term-returns-in-Fn g t c =
     let context = scope_items c.args.context.now in
     let types = c.args.types.now in
     let o = opened a.nil p c.args.node c.index.result.now (Fn c.in-Fn.binder c.in-Fn.domain c.in-Fn.body) c.requires.there c.index.ensures c.in-Fn.is c.requires.ready in
-    subst (λ u. Judges a p context u types c.judge_fn.new.types c.judge_fn.result c.judge_fn.new.usage) (sym o.is) (judges_as (term_in a.nil p.grades.now (tables_of p.rule.now.program) c.index.result.now.place (Fn c.in-Fn.binder c.in-Fn.domain c.in-Fn.body)) c.judge_fn.result c.judge_fn.ensures refl (omega arith))
+    subst (λ u. Judges a p context u types c.judge_fn.new.types c.judge_fn.result) (sym o.is) (judges_as (term_in a.nil p.grades.now (tables_of p.rule.now.program) c.index.result.now.place (Fn c.in-Fn.binder c.in-Fn.domain c.in-Fn.body)) c.judge_fn.result c.judge_fn.ensures refl (omega arith))
 
 pub judge_term-judge_call-requires : goal.judge_term-judge_call-requires
 judge_term-judge_call-requires g t c κs within =
@@ -273,7 +276,7 @@ judge_term-returns-in-Call g t c =
     let context = scope_items c.args.context.now in
     let types = c.args.types.now in
     let o = opened a.nil p c.args.node c.index.result.now (Call c.in-Call.function c.in-Call.argument) c.requires.there c.index.ensures c.in-Call.is c.requires.ready in
-    subst (λ u. Judges a p context u types c.judge_call.new.types c.judge_call.result c.judge_call.new.usage) (sym o.is) (judges_as (term_in a.nil p.grades.now (tables_of p.rule.now.program) c.index.result.now.place (Call c.in-Call.function c.in-Call.argument)) c.judge_call.result c.judge_call.ensures refl (omega arith))
+    subst (λ u. Judges a p context u types c.judge_call.new.types c.judge_call.result) (sym o.is) (judges_as (term_in a.nil p.grades.now (tables_of p.rule.now.program) c.index.result.now.place (Call c.in-Call.function c.in-Call.argument)) c.judge_call.result c.judge_call.ensures refl (omega arith))
 
 pub judge_term-judge_numbers-requires : goal.judge_term-judge_numbers-requires
 judge_term-judge_numbers-requires g t c κs within =
@@ -284,24 +287,24 @@ judge_term-judge_numbers-requires g t c κs within =
     let second = o.older.1 in
     (search rules, (search rules, (search rules, record { there = o.fits; ready = o.ready })))
 
-pub judge_term-returns-in_err-judge_numbers-in-Add : goal.judge_term-returns-in_err-judge_numbers-in-Add
-judge_term-returns-in_err-judge_numbers-in-Add g t c =
+pub judge_term-returns-in_err-usage-in-Add : goal.judge_term-returns-in_err-usage-in-Add
+judge_term-returns-in_err-usage-in-Add g t c =
     let a = g.G.Algebra in
     let p = c.args.self.now in
     let context = scope_items c.args.context.now in
     let types = c.args.types.now in
     let o = sum_opened a p c.args.node c.index.result.now c.in-Add.left c.in-Add.right c.requires.there c.index.ensures c.in-Add.is c.requires.ready in
-    refused_judges a p context (node_at a.nil p c.args.node) types c.judge_numbers.new.types c.from_residual-in_err-judge_numbers-in-Add.result c.judge_numbers.new.usage (broke c.from_residual-in_err-judge_numbers-in-Add.result c.from_residual-in_err-judge_numbers-in-Add.ensures.1)
-    (o.same (context_types a.nil p.grades.now types.types.items context) ∙ ends _ _ _ c.in_err-judge_numbers-in-Add.ensures.answer)
+    refused_judges a p context (node_at a.nil p c.args.node) types c.judge_numbers.new.types c.from_residual-in_err-usage-in-Add.result (broke c.from_residual-in_err-usage-in-Add.result c.from_residual-in_err-usage-in-Add.ensures.1)
+    (o.same (context_types a.nil p.grades.now types.types.items context) ∙ ends _ _ _ c.in_err-usage-in-Add.ensures.answer)
 
-pub judge_term-returns-in_ok-judge_numbers-in-Add : goal.judge_term-returns-in_ok-judge_numbers-in-Add
-judge_term-returns-in_ok-judge_numbers-in-Add g t c =
+pub judge_term-returns-in_ok-usage-in-Add : goal.judge_term-returns-in_ok-usage-in-Add
+judge_term-returns-in_ok-usage-in-Add g t c =
     let a = g.G.Algebra in
     let p = c.args.self.now in
     let context = scope_items c.args.context.now in
     let types = c.args.types.now in
     let o = sum_opened a p c.args.node c.index.result.now c.in-Add.left c.in-Add.right c.requires.there c.index.ensures c.in-Add.is c.requires.ready in
-    judges_as (node_at a.nil p c.args.node) (Ok Num) (number_exit a p context (part a.nil p (Add c.in-Add.left c.in-Add.right)) c.in_ok-judge_numbers-in-Add.ensures refl (omega arith)) (o.same (context_types a.nil p.grades.now types.types.items context)) (omega (arith, o.size))
+    judges_as (node_at a.nil p c.args.node) (Ok (Num, c.in_ok-usage-in-Add.usage)) (number_exit a p context (part a.nil p (Add c.in-Add.left c.in-Add.right)) c.in_ok-usage-in-Add.ensures refl (omega arith)) (o.same (context_types a.nil p.grades.now types.types.items context)) (omega (arith, o.size))
 
 pub judge_term-judge_number-requires : goal.judge_term-judge_number-requires
 judge_term-judge_number-requires g t c κs within =
@@ -311,24 +314,24 @@ judge_term-judge_number-requires g t c κs within =
     let first = o.older in
     (search rules, (search rules, (search rules, record { there = o.fits; ready = ready_as (node_at a.nil p c.in-Half.part) o.ready (omega arith) (omega arith) (omega arith) })))
 
-pub judge_term-returns-in_err-judge_number-in-Half : goal.judge_term-returns-in_err-judge_number-in-Half
-judge_term-returns-in_err-judge_number-in-Half g t c =
+pub judge_term-returns-in_err-usage-in-Half : goal.judge_term-returns-in_err-usage-in-Half
+judge_term-returns-in_err-usage-in-Half g t c =
     let a = g.G.Algebra in
     let p = c.args.self.now in
     let context = scope_items c.args.context.now in
     let types = c.args.types.now in
     let o = opened a.nil p c.args.node c.index.result.now (Half c.in-Half.part) c.requires.there c.index.ensures c.in-Half.is c.requires.ready in
-    refused_judges a p context (node_at a.nil p c.args.node) types c.judge_number.new.types c.from_residual.result c.judge_number.new.usage (broke c.from_residual.result c.from_residual.ensures.1)
-    (ap (judged a (context_types a.nil p.grades.now types.types.items context)) o.is ∙ ends _ _ _ c.in_err-judge_number-in-Half.ensures.answer)
+    refused_judges a p context (node_at a.nil p c.args.node) types c.judge_number.new.types c.from_residual.result (broke c.from_residual.result c.from_residual.ensures.1)
+    (ap (judged a (context_types a.nil p.grades.now types.types.items context)) o.is ∙ ends _ _ _ c.in_err-usage-in-Half.ensures.answer)
 
-pub judge_term-returns-in_ok-judge_number-in-Half : goal.judge_term-returns-in_ok-judge_number-in-Half
-judge_term-returns-in_ok-judge_number-in-Half g t c =
+pub judge_term-returns-in_ok-usage-in-Half : goal.judge_term-returns-in_ok-usage-in-Half
+judge_term-returns-in_ok-usage-in-Half g t c =
     let a = g.G.Algebra in
     let p = c.args.self.now in
     let context = scope_items c.args.context.now in
     let types = c.args.types.now in
     let o = opened a.nil p c.args.node c.index.result.now (Half c.in-Half.part) c.requires.there c.index.ensures c.in-Half.is c.requires.ready in
-    subst (λ u. Judges a p context u types c.judge_number.new.types (Ok Num) c.judge_number.new.usage) (sym o.is) (number_exit a p context (term_in a.nil p.grades.now (tables_of p.rule.now.program) c.index.result.now.place (Half c.in-Half.part)) c.in_ok-judge_number-in-Half.ensures refl (omega arith))
+    subst (λ u. Judges a p context u types c.judge_number.new.types (Ok (Num, c.in_ok-usage-in-Half.usage))) (sym o.is) (number_exit a p context (term_in a.nil p.grades.now (tables_of p.rule.now.program) c.index.result.now.place (Half c.in-Half.part)) c.in_ok-usage-in-Half.ensures refl (omega arith))
 
 pub judge_term-judge_less-requires : goal.judge_term-judge_less-requires
 judge_term-judge_less-requires g t c κs within =
@@ -348,4 +351,4 @@ judge_term-returns-in-Less g t c =
     let context = scope_items c.args.context.now in
     let types = c.args.types.now in
     let o = opened a.nil p c.args.node c.index.result.now (Less c.in-Less.left c.in-Less.right c.in-Less.below c.in-Less.otherwise) c.requires.there c.index.ensures c.in-Less.is c.requires.ready in
-    subst (λ u. Judges a p context u types c.judge_less.new.types c.judge_less.result c.judge_less.new.usage) (sym o.is) (judges_as (term_in a.nil p.grades.now (tables_of p.rule.now.program) c.index.result.now.place (Less c.in-Less.left c.in-Less.right c.in-Less.below c.in-Less.otherwise)) c.judge_less.result c.judge_less.ensures refl (omega arith))
+    subst (λ u. Judges a p context u types c.judge_less.new.types c.judge_less.result) (sym o.is) (judges_as (term_in a.nil p.grades.now (tables_of p.rule.now.program) c.index.result.now.place (Less c.in-Less.left c.in-Less.right c.in-Less.below c.in-Less.otherwise)) c.judge_less.result c.judge_less.ensures refl (omega arith))
