@@ -1,5 +1,5 @@
 -- The tables stay sound when an entry is added to one of them. Assumes nothing.
-use Rattle.std.proofs.Common.{◌≡◌, ℕ, ◌<◌, ◌≤◌, Bool, true, ◌&&◌, ltb, List, [], ◌∷◌, ◌++◌, length, get_or, sym, refl, ap, subst, ⊎_elim, arith}
+use Rattle.std.proofs.Common.{◌≡◌, ℕ, ◌<◌, ◌≤◌, Bool, true, ◌&&◌, ltb, List, [], ◌∷◌, ◌++◌, length, get_or, sym, refl, subst, ⊎_elim, arith}
 use Rattle.std.proofs.lemmas.List.{length_push, get_or_push, get_or_append_left}
 use Rattle.std.proofs.lemmas.Bool.{cases_lt, and_from, and_parts, lt-ltb, ltb-true}
 use Rattle.language.specs.declared.program.Binder.{Binder}
@@ -70,18 +70,5 @@ nodes_push b t xs x all last = each_push (λ i n. term_sound b t i n.term ≡ tr
 pub nodes_more : (b b' t t' : ℕ) (xs : List Node) → b ≤ b' → t ≤ t' → NodesSound b t xs → NodesSound b' t' xs
 nodes_more b b' t t' xs h k all i l = term_more b b' t t' i _ h k (all i l)
 
--- the tables once one more entry stands in one of them
-pub binders_added : (s : Tables) (x : Binder) {ys : List Binder} → BindersSound s.grades s.binders → x.grade < s.grades → ys ≡ s.binders ++ (x ∷ []) → BindersSound s.grades ys
-binders_added s x all fits e = subst (BindersSound s.grades) (sym e) (binders_push _ _ _ all fits)
-
-pub types_added : (s : Tables) (x : SimpleType) {ys : List SimpleType} → TypesSound s.grades s.types → TypeFits s x → ys ≡ s.types ++ (x ∷ []) → TypesSound s.grades ys
-types_added s x all fits e = subst (TypesSound s.grades) (sym e) (types_push _ _ _ all (type_fits s x fits))
-
 pub nodes_added : (s : Tables) (x : Node) {ys : List Node} → NodesSound (length s.binders) (length s.types) s.nodes → TermFits s x.term → ys ≡ s.nodes ++ (x ∷ []) → NodesSound (length s.binders) (length s.types) ys
 nodes_added s x all fits e = subst (NodesSound (length s.binders) (length s.types)) (sym e) (nodes_push _ _ _ _ all (term_fits s x.term fits))
-
-pub nodes_beside_binder : (s : Tables) (x : Binder) {ys : List Binder} → NodesSound (length s.binders) (length s.types) s.nodes → ys ≡ s.binders ++ (x ∷ []) → NodesSound (length ys) (length s.types) s.nodes
-nodes_beside_binder s x {ys} all e = nodes_more (length s.binders) (length ys) (length s.types) (length s.types) s.nodes (omega (arith, ap length e, length_push s.binders x)) (omega arith) all
-
-pub nodes_beside_type : (s : Tables) (x : SimpleType) {ys : List SimpleType} → NodesSound (length s.binders) (length s.types) s.nodes → ys ≡ s.types ++ (x ∷ []) → NodesSound (length s.binders) (length ys) s.nodes
-nodes_beside_type s x {ys} all e = nodes_more (length s.binders) (length s.binders) (length s.types) (length ys) s.nodes (omega arith) (omega (arith, ap length e, length_push s.types x)) all
