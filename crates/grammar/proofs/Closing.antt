@@ -15,6 +15,7 @@ use Rattle.language.specs.declared.program.Node.{Node}
 use Rattle.language.specs.declared.heads.TermHead.{TermHead}
 use Rattle.language.specs.declared.heads.TermHead.TheVariants as heads
 use Rattle.language.specs.Scopes.{find}
+use Rattle.language.specs.Tables.{no_node, NodesSound}
 use Rattle.language.specs.Reading.{Tables, State, state, no_tables, Read, changed, with_word, with_input, tables_of, text_read, left_by, program_read}
 use Rattle.grammar.specs.declared.closed.ClosedProgram.{ClosedProgram}
 use Rattle.grammar.specs.Syntax.{Ty, Tm, name, literal, fn, binary, half, less, Rule, input, run, rule_inputs, run_of, term_words, term_depth}
@@ -24,6 +25,7 @@ use Rattle.grammar.specs.Recovering.{grow, no_term, types_in, form, terms_in, la
 use Rattle.grammar.specs.Closing.{needed, nesting, functions, size_of, no_size, inside, both, size_entry, sizes_in, run_size}
 use Rattle.grammar.proofs.Recovery.{length-grow}
 use Rattle.grammar.proofs.Recovered.{parted_inputs}
+use Rattle.grammar.proofs.Entries.{term-entry}
 use Rattle.grammar.proofs.Theorem.{exact}
 
 -- the same function of every entry of a table is a table, if the steps agree
@@ -78,6 +80,16 @@ module _ {G : Type 0} (beyond : G) (text : List ℕ) (list : List G) where
 
     pub run_size_held : size_of (run_of (rule_in beyond text list t)) ≡ run_size t.nodes
     run_size_held = ap size_of last_held ∙ size_held t.binders t.types t.nodes (length t.nodes - 1)
+
+-- a size by the sizes of its parts, from the whole table
+pub size_entry_at : (b t : ℕ) (nodes : List Node) (i : ℕ) → NodesSound b t nodes → i < length nodes → get_or (sizes_in nodes) i no_size ≡ size_entry (sizes_in nodes) (get_or nodes i no_node).term
+size_entry_at b t nodes i s h =
+    let n = get_or nodes i no_node in
+    let us = terms_in {G = ℕ} 0 [] [] [] [] nodes in
+    sym (size_held {G = ℕ} 0 [] [] [] [] nodes i)
+    ∙ ap size_of (term-entry {G = ℕ} 0 [] [] [] [] b t nodes i s h)
+    ∙ size-form {G = ℕ} 0 [] [] [] [] us n.place n.term
+    ∙ ap (λ ss. size_entry ss n.term) (sizes_held {G = ℕ} 0 [] [] [] [] nodes)
 
 -- a name that was found is one of the scope
 found_below : (b : Bool) (o : Option ℕ) (k n : ℕ) → ((j : ℕ) → o ≡ Some j → j < n) → cond b (Some 0) (option_map suc o) ≡ Some k → k < suc n

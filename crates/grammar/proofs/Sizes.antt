@@ -1,7 +1,7 @@
 -- How many words and grades storing adds. Assumes nothing.
 use Rattle.std.proofs.Common.{◌≡◌, ℕ, ◌+◌, ◌-◌, ◌<◌, ◌≤◌, max, refl, arith}
 use Rattle.language.specs.Reading.{State, changed, with_word, with_binder, with_input}
-use Rattle.grammar.specs.Syntax.{Ty, num, to, Tm, name, literal, fn, binary, half, less, Rule, input, run, rule_grades, run_of, type_words, type_grades, term_words, term_grades, term_depth}
+use Rattle.grammar.specs.Syntax.{Ty, num, to, Tm, name, literal, fn, binary, half, less, Rule, input, run, rule_grades, run_of, type_words, type_grades, type_depth, term_words, term_grades, term_depth}
 use Rattle.grammar.specs.Storing.{keep_grade, keep_node, entry, place_of, typed, parted, termed, ruled}
 
 module _ {G : Type 0} where
@@ -92,6 +92,10 @@ module _ {G : Type 0} where
   ruled_grades (run u) s = termed_grades u s
 
   -- every type and term has a word and a level
+  pub type_some : (a : Ty G) → (1 ≤ type_words a) × (1 ≤ type_depth a)
+  type_some num = (omega arith, omega arith)
+  type_some (to g a b) = (omega arith, omega arith)
+
   pub term_some : (u : Tm G) → (1 ≤ term_words u) × (1 ≤ term_depth u)
   term_some (name p k) = (omega arith, omega arith)
   term_some (literal p z) = (omega arith, omega arith)

@@ -4,6 +4,7 @@ use Rattle.std.proofs.lemmas.Result.{err_from_is_err_and}
 use Rattle.tokens.specs.declared.refusal.Fault.{Fault}
 use Rattle.tokens.specs.declared.refusal.Refusal.TheVariants.{TypesDiffer, NotCovered}
 use Rattle.tokens.specs.Tokens.{fault}
+use Rattle.language.specs.declared.program.SimpleType.{SimpleType}
 use Rattle.language.specs.declared.heads.Binary.TheVariants.{Call}
 use Rattle.language.specs.Reading.{◌then◌}
 use Rattle.language.proofs.Chains.{goes_on, ends}
@@ -12,10 +13,19 @@ use Rattle.grammar.specs.Syntax.{Label, Ty, to, Tm, fn, binary, less}
 use Rattle.grammar.specs.Storing.{place_of}
 use Rattle.typing.specs.Usages.{sum, product, join}
 use Rattle.typing.specs.Judging.{number, unless, same_type, both, judged}
+use Rattle.judge.specs.declared.usage.Usage.{Usage}
+use Rattle.judge.specs.Progress.{judged_into, used_into}
 
 -- the exit of a `?`
 pub broke : {X : Type 0} (r : Result X Fault) {f : Fault} → IsErrAnd r (λ y. y ≡ f) → r ≡ Err f
 broke r e = let p = err_from_is_err_and r e in p.1 ∙ ap Err p.2
+
+-- and that of a call that was lent a usage
+pub broke_judged : {G : Type 0} (r : Result SimpleType Fault) (v : Usage G) {f : Fault} → IsErrAnd r (λ y. y ≡ f) → judged_into r v ≡ Err f
+broke_judged r v e = ap (λ x. judged_into x v) (broke r e)
+
+pub broke_used : {G : Type 0} (r : Result (Unit {0}) Fault) (v : Usage G) {f : Fault} → IsErrAnd r (λ y. y ≡ f) → used_into r v ≡ Err f
+broke_used r v e = ap (λ x. used_into x v) (broke r e)
 
 module _ {G : Type 0} (a : Ghosts G) where
   -- two numbers

@@ -1,5 +1,5 @@
 -- The exits of judging: a refusal, or the judgement of a term whose parts are judged. Assumes nothing.
-use Rattle.std.proofs.Common.{◌≡◌, ℕ, suc, ◌+◌, ◌-◌, ◌<◌, ◌≤◌, Bool, true, false, List, [], ◌∷◌, ◌++◌, length, get_or, set, replicate, ℤ, Ok, Err, Result, sym, refl, ap, ◌∙◌, append_assoc, arith}
+use Rattle.std.proofs.Common.{◌≡◌, ℕ, suc, ◌+◌, ◌-◌, ◌<◌, ◌≤◌, Bool, true, false, List, [], ◌∷◌, ◌++◌, length, get_or, set, replicate, ℤ, Ok, Err, Result, sym, refl, ap, ◌∙◌, subst, append_assoc, arith}
 use Rattle.std.proofs.lemmas.List.{length_push, get_or_push}
 use Rattle.std.proofs.lemmas.Bool.{and_from, lt-ltb}
 use Rattle.tokens.specs.declared.refusal.Fault.{Fault}
@@ -68,6 +68,19 @@ module _ {G : Type 0} (a : Ghosts G) (p : GradedRule G) (c : List SimpleType) wh
   abbrev used : Usage G → List G
   used v = newest a.nil v.grades (length c)
 
+  -- the usages of so many binders, where these are those of the context
+  abbrev pub used_to : ℕ → Usage G → List G
+  used_to n v = newest a.nil v.grades n
+
+  all_summed : {n : ℕ} (x y z : Usage G) → n ≡ length c → used_to n z ≡ sum a (used_to n x) (used_to n y) → used z ≡ sum a (used x) (used y)
+  all_summed x y z many is = subst (λ m. used_to m z ≡ sum a (used_to m x) (used_to m y)) many is
+
+  all_joined : {n : ℕ} (x y z : Usage G) → n ≡ length c → used_to n z ≡ join a (used_to n x) (used_to n y) → used z ≡ join a (used x) (used y)
+  all_joined x y z many is = subst (λ m. used_to m z ≡ join a (used_to m x) (used_to m y)) many is
+
+  all_scaled : {n : ℕ} (g : G) (x z : Usage G) → n ≡ length c → used_to n z ≡ product a g (used_to n x) → used z ≡ product a g (used x)
+  all_scaled g x z many is = subst (λ m. used_to m z ≡ product a g (used_to m x)) many is
+
   -- a refusal
   pub refused_judges : (u : Tm G) (before after : TypeTable) (r : Result (SimpleType × Usage G) Fault) {f : Fault} → r ≡ Err f → judged a (around before) u ≡ Err f → Judges a p c u before after r
   refused_judges u before after r e h = record { answer = ap (judgement_of a.nil p.grades.now after.types.items (length c)) e ∙ sym h; grows = rw e tt }
@@ -110,9 +123,9 @@ module _ {G : Type 0} (a : Ghosts G) (p : GradedRule G) (c : List SimpleType) wh
   }
 
   -- the sum of two usages
-  pub numbers_exit : {u : Tm G} (s v : Tm G) {types more most : TypeTable} {x y z : Usage G} → Ready p c types u → Uses a p c (number_judged a p c types s) (functions s) types more (Ok x) → Uses a p c (number_judged a p c more v) (functions v) more most (Ok y) → used z ≡ sum a (used x) (used y) → Uses a p c (both a (number_judged a p c types s) (number_judged a p c types v)) (functions s + functions v) types most (Ok z)
-  numbers_exit s v {types} ready first second is = record {
-    answer = ap Ok is ∙ sym (both-judged a (number_judged a p c types s) (number_judged a p c types v) first.answer (second.answer ∙ number_later ready first.grows v));
+  pub numbers_exit : {u : Tm G} (s v : Tm G) {types more most : TypeTable} {n : ℕ} {x y z : Usage G} → Ready p c types u → Uses a p c (number_judged a p c types s) (functions s) types more (Ok x) → Uses a p c (number_judged a p c more v) (functions v) more most (Ok y) → n ≡ length c → used_to n z ≡ sum a (used_to n x) (used_to n y) → Uses a p c (both a (number_judged a p c types s) (number_judged a p c types v)) (functions s + functions v) types most (Ok z)
+  numbers_exit s v {types} ready first second many is = record {
+    answer = ap Ok (all_summed _ _ _ many is) ∙ sym (both-judged a (number_judged a p c types s) (number_judged a p c types v) first.answer (second.answer ∙ number_later ready first.grows v));
     grows = grown_on first.grows second.grows;
   }
 
@@ -138,12 +151,12 @@ module _ {G : Type 0} (a : Ghosts G) (p : GradedRule G) (c : List SimpleType) wh
         pub argument_differs_here : {r : Result (SimpleType × Usage G) Fault} {after : TypeTable} → r ≡ Err (fault TypesDiffer (place_of x)) → b ≡ false → Judges a p c (binary place Call f x) types after r
         argument_differs_here {r} {after} exit no' = refused_judges (binary place Call f x) types after r exit (argument_differs a (around types) place f x arrow later (sym domain_tested ∙ no'))
 
-        pub call_exit : {g : G} (z : Usage G) {q : Usage G} {k : SimpleType} → b ≡ true → k ≡ get_or most.types.items result Num → g ≡ get_or p.grades.now grade a.nil → used z ≡ product a g (used y) → used q ≡ sum a (used v) (used z) → Judges a p c (binary place Call f x) types most (Ok (k, q))
-        call_exit {g} z {q} {k} yes' is-result is-grade often summed =
+        pub call_exit : {n : ℕ} {g : G} (z : Usage G) {q : Usage G} {k : SimpleType} → b ≡ true → k ≡ get_or most.types.items result Num → g ≡ get_or p.grades.now grade a.nil → n ≡ length c → used_to n z ≡ product a g (used_to n y) → used_to n q ≡ sum a (used_to n v) (used_to n z) → Judges a p c (binary place Call f x) types most (Ok (k, q))
+        call_exit {g = g} z {q} {k} yes' is-result is-grade many often summed =
             let u = used v in
             let given = used y in
             let typed = ap (meant a p most) is-result ∙ part_there a p result second.grows.0 arrow_there.1 in
-            let both = summed ∙ ap (sum a u) (often ∙ ap (λ h. product a h given) is-grade) in
+            let both = all_summed _ _ _ many summed ∙ ap (sum a u) (all_scaled _ _ _ many often ∙ ap (λ h. product a h given) is-grade) in
             let fits = grown_longer second.grows.0 in
             record {
               answer = (λ j. Ok (typed j, both j)) ∙ sym (call_judged a (around types) place f x arrow later (sym domain_tested ∙ yes'));
@@ -208,10 +221,10 @@ module _ {G : Type 0} (a : Ghosts G) (p : GradedRule G) (c : List SimpleType) wh
         pub branches_differ_here : {r : Result (SimpleType × Usage G) Fault} {after : TypeTable} → r ≡ Err (fault TypesDiffer (place_of y)) → b ≡ false → Judges a p c (less place l o x y) types after r
         branches_differ_here {r} {after} exit no' = refused_judges (less place l o x y) types after r exit (branches_differ a (around types) place l o x y first.answer branch other (sym branches_tested ∙ no'))
 
-        pub less_exit : (z : Usage G) {q : Usage G} → b ≡ true → used z ≡ join a (used w) (used w') → used q ≡ sum a (used v) (used z) → Judges a p c (less place l o x y) types last (Ok (s, q))
-        less_exit z yes' joined summed =
+        pub less_exit : {n : ℕ} (z : Usage G) {q : Usage G} → b ≡ true → n ≡ length c → used_to n z ≡ join a (used_to n w) (used_to n w') → used_to n q ≡ sum a (used_to n v) (used_to n z) → Judges a p c (less place l o x y) types last (Ok (s, q))
+        less_exit z yes' many joined summed =
             let typed = type_later a p s third.grows.0 second.grows.1 in
-            let both = summed ∙ ap (sum a (used v)) joined in
+            let both = all_summed _ _ _ many summed ∙ ap (sum a (used v)) (all_joined _ _ _ many joined) in
             record {
               answer = (λ j. Ok (typed j, both j)) ∙ sym (less_judged a (around types) place l o x y first.answer branch other (sym branches_tested ∙ yes'));
               grows = (grown_within (omega arith) (grown_on grown_twice third.grows.0), sound_wider 256 256 (length most.types.items) (length last.types.items) s (omega arith) (grown_longer third.grows.0) second.grows.1);

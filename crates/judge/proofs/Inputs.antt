@@ -30,7 +30,7 @@ module _ {G : Type 0} (a : Ghosts G) (t : Tables) (list : List G) where
     rest k = inputs_covered a (inputs_from k) (drop k us)
 
     -- the input number i, and those behind it
-    next_input : (b : Binder) (p : G) → i < t.inputs → b ≡ get_or t.binders i no_binder → p ≡ get_or us i p → rest i ≡ (unless (a.permits (get_or list b.grade a.nil) p) (fault NotCovered b.place) then λ _. rest (i + 1))
+    pub next_input : (b : Binder) (p : G) → i < t.inputs → b ≡ get_or t.binders i no_binder → p ≡ get_or us i p → rest i ≡ (unless (a.permits (get_or list b.grade a.nil) p) (fault NotCovered b.place) then λ _. rest (i + 1))
     next_input b p below is read =
         let front = take t.inputs t.binders in
         let many : length front ≡ t.inputs = length-take-le t.inputs t.binders declared in

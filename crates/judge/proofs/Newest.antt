@@ -1,6 +1,6 @@
 -- What the first entries of a list become when the list is changed entry by entry. Assumes nothing.
-use Rattle.std.proofs.Common.{◌≡◌, ℕ, zero, suc, ◌+◌, ◌<◌, ◌≤◌, ◌≢◌, List, [], ◌∷◌, map, length, get_or, set, refl, ap, ◌∙◌, arith}
-use Rattle.std.proofs.lemmas.List.{get_or-map, length-set, get_or-set_other}
+use Rattle.std.proofs.Common.{◌≡◌, ℕ, zero, suc, ◌+◌, ◌<◌, ◌≤◌, ◌≢◌, List, ◌∷◌, map, length, get_or, set, refl, ap, ◌∙◌, arith}
+use Rattle.std.proofs.lemmas.List.{length-set, get_or-set_other}
 use Rattle.std.proofs.lemmas.List.Edits.{fill_by_more}
 use Rattle.typing.specs.Usages.{binder_by_binder}
 use Rattle.judge.specs.Newest.{newest}
@@ -31,43 +31,17 @@ module _ {X : Type 0} (d : X) where
       let tail = newest-set xs i x n (omega arith) in
       λ k. head k ∷ tail k
 
-  -- lists that were made one from two, or one from one
-  pub each-both : (f : X → X → X) (xs ys zs : List X) → length xs ≡ length zs → length ys ≡ length zs → ((k : ℕ) → k < length zs → get_or zs k d ≡ f (get_or xs k d) (get_or ys k d)) → zs ≡ binder_by_binder f xs ys
-  each-both f [] ys [] l m h = refl
-  each-both f [] ys (z ∷ zs) l m h = absurd (omega arith)
-  each-both f (x ∷ xs) ys [] l m h = absurd (omega arith)
-  each-both f (x ∷ xs) [] (z ∷ zs) l m h = absurd (omega arith)
-  each-both f (x ∷ xs) (y ∷ ys) (z ∷ zs) l m h =
-      let head = h 0 (omega arith) in
-      let tail = each-both f xs ys zs (omega arith) (omega arith) (λ k below. h (suc k) (omega arith)) in
+  -- entries that were made one from two, or one from one
+  pub newest-both : (f : X → X → X) (xs ys zs : List X) (n : ℕ) → ((k : ℕ) → k < n → get_or zs k d ≡ f (get_or xs k d) (get_or ys k d)) → newest d zs n ≡ binder_by_binder f (newest d xs n) (newest d ys n)
+  newest-both f xs ys zs zero h = refl
+  newest-both f xs ys zs (suc n) h =
+      let head = h n (omega arith) in
+      let tail = newest-both f xs ys zs n (λ k below. h k (omega arith)) in
       λ k. head k ∷ tail k
 
-  pub each_one : (f : X → X) (xs zs : List X) → length xs ≡ length zs → ((k : ℕ) → k < length zs → get_or zs k d ≡ f (get_or xs k d)) → zs ≡ map f xs
-  each_one f [] [] l h = refl
-  each_one f [] (z ∷ zs) l h = absurd (omega arith)
-  each_one f (x ∷ xs) [] l h = absurd (omega arith)
-  each_one f (x ∷ xs) (z ∷ zs) l h =
-      let head = h 0 (omega arith) in
-      let tail = each_one f xs zs (omega arith) (λ k below. h (suc k) (omega arith)) in
-      λ k. head k ∷ tail k
-
-  get_or-both : (f : X → X → X) (xs ys : List X) (k : ℕ) → k < length xs → k < length ys → get_or (binder_by_binder f xs ys) k d ≡ f (get_or xs k d) (get_or ys k d)
-  get_or-both f [] ys k h g = absurd (omega arith)
-  get_or-both f (x ∷ xs) [] k h g = absurd (omega arith)
-  get_or-both f (x ∷ xs) (y ∷ ys) zero h g = refl
-  get_or-both f (x ∷ xs) (y ∷ ys) (suc k) h g = get_or-both f xs ys k (omega arith) (omega arith)
-
-  -- and the first entries of them
-  pub newest-both : (f : X → X → X) (xs ys : List X) (n : ℕ) → n ≤ length xs → n ≤ length ys → newest d (binder_by_binder f xs ys) n ≡ binder_by_binder f (newest d xs n) (newest d ys n)
-  newest-both f xs ys zero h g = refl
-  newest-both f xs ys (suc n) h g =
-      let head = get_or-both f xs ys n (omega arith) (omega arith) in
-      let tail = newest-both f xs ys n (omega arith) (omega arith) in
-      λ k. head k ∷ tail k
-
-  pub newest_each : (f : X → X) (xs : List X) (n : ℕ) → n ≤ length xs → newest d (map f xs) n ≡ map f (newest d xs n)
-  newest_each f xs zero h = refl
-  newest_each f xs (suc n) h =
-      let head = get_or-map f xs n d d (omega arith) in
-      let tail = newest_each f xs n (omega arith) in
+  pub newest_each : (f : X → X) (xs zs : List X) (n : ℕ) → ((k : ℕ) → k < n → get_or zs k d ≡ f (get_or xs k d)) → newest d zs n ≡ map f (newest d xs n)
+  newest_each f xs zs zero h = refl
+  newest_each f xs zs (suc n) h =
+      let head = h n (omega arith) in
+      let tail = newest_each f xs zs n (λ k below. h k (omega arith)) in
       λ k. head k ∷ tail k

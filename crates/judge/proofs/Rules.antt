@@ -1,5 +1,5 @@
 -- Judging a rule, once its run term is judged. Assumes nothing.
-use Rattle.std.proofs.Common.{◌≡◌, ℕ, zero, suc, ◌-◌, ◌<◌, ◌≤◌, false, ◌||◌, ltb, List, [], ◌∷◌, ◌++◌, map, reverse, length, get_or, take, drop, replicate, is_some, Some, None, Ok, Err, Option, sym, refl, ap, ◌∙◌, append-nil, arith}
+use Rattle.std.proofs.Common.{◌≡◌, ℕ, zero, suc, ◌-◌, ◌<◌, ◌≤◌, false, ◌||◌, ltb, List, [], ◌∷◌, ◌++◌, map, reverse, length, get_or, take, drop, replicate, is_some, Some, None, Ok, Err, Option, Result, sym, refl, ap, ◌∙◌, append-nil, arith}
 use Rattle.std.proofs.lemmas.List.{get_or-replicate, length-replicate, length-take-le}
 use Rattle.std.proofs.lemmas.Bool.{cond-false, le-ltb, ne_eqb}
 use Rattle.tokens.specs.declared.refusal.Fault.{Fault}
@@ -23,10 +23,10 @@ use Rattle.judge.specs.declared.table.TypeTable.{TypeTable}
 use Rattle.judge.specs.declared.usage.Usage.{Usage}
 use Rattle.judge.specs.Newest.{newest}
 use Rattle.judge.specs.Meaning.{type_in, node_at}
-use Rattle.judge.specs.Progress.{Ready, context_types}
+use Rattle.judge.specs.Progress.{Ready, used_into, context_types}
 use Rattle.judge.specs.declared.verdict.Verdict.{Verdict}
 use Rattle.judge.specs.declared.verdict.Verdict.TheVariants.{Accepted, Refused}
-use Rattle.judge.specs.Programs.{rule_of, graded_rule, concluded, once_judged, program_judged}
+use Rattle.judge.specs.Programs.{rule_of, graded_rule, usages_of, concluded, once_judged, program_judged}
 use Rattle.judge.proofs.Inputs.{newest_reversed}
 
 inputs_many : {G : Type 0} (nil : G) (list : List G) (bs : List Binder) (u : Tm G) → rule_inputs (inputs_in nil [] list bs (run u)) ≡ length bs
@@ -104,6 +104,10 @@ module _ {G : Type 0} (a : Ghosts G) (p : GradedRule G) (c : List SimpleType) (i
 
       pub run_judged : {q : Unit {0}} → Ok q ≡ inputs_covered a rule (take inputs u.grades) → Ok (take inputs u.grades) ≡ rule_judged a rule
       run_judged h = sym (tested ∙ goes_on _ _ _ h)
+
+      pub run_tested : (r : Result (Unit {0}) Fault) → r ≡ inputs_covered a rule (take inputs u.grades) → usages_of inputs (used_into r u) ≡ rule_judged a rule
+      run_tested (Ok q) h = run_judged h
+      run_tested (Err f) h = sym (input_fails h)
 
 -- nothing stands in the way of judging
 module _ {G : Type 0} (a : Ghosts G) (t : Tables) (list work : List G) (v : Option Verdict) (long : 256 ≤ length list) (wide : 2592 ≤ length work) (there : 0 < length t.nodes) where

@@ -45,6 +45,15 @@ pub record Grown (most : ℕ) (before after : TypeTable) : Type 0 where
   pub is : after.types.items ≡ before.types.items ++ added
   pub few : length after.types.items ≤ length before.types.items + most
 
+-- an answer, with the usage that was written over the one that was lent; a refusal says nothing of it
+abbrev pub judged_into : {G : Type 0} → Result SimpleType Fault → Usage G → Result (SimpleType × Usage G) Fault
+judged_into (Ok s) v = Ok (s, v)
+judged_into (Err f) v = Err f
+
+abbrev pub used_into : {G : Type 0} → Result (Unit {0}) Fault → Usage G → Result (Usage G) Fault
+used_into (Ok _) v = Ok v
+used_into (Err f) v = Err f
+
 -- what the code's values stand for
 module _ {G : Type 0} (nil : G) (list : List G) where
   abbrev pub context_types : List SimpleType → List SimpleType → List (Ty G)

@@ -5,7 +5,7 @@ ghost use Rattle.language.specs.Reading.{tables_of};
 ghost use Rattle.language.specs.Scopes.{scope_items};
 ghost use Rattle.typing.specs.Judging.{inputs_covered, rule_judged};
 ghost use Rattle.judge.specs.Meaning.{run_node};
-ghost use Rattle.judge.specs.Progress.{Ready, Judges};
+ghost use Rattle.judge.specs.Progress.{Ready, judged_into, used_into, Judges};
 ghost use Rattle.judge.specs.Programs.{graded_rule, usages_of, program_judged};
 
 use crate::graded::GradedRule;
@@ -35,35 +35,40 @@ impl<G: Algebra> GradedRule<'_, G> {
         Ok(())
     }
 
-    // The type of the run term, with so many more inputs open around it, which are numbers.
+    // The type of the run term, and its usage, with so many more inputs open around it, which are numbers.
     fn judge_run(
         &self,
         types: &mut TypeTable,
         context: &Scope<'_, SimpleType>,
         inputs: usize,
-    ) -> Result<(SimpleType, Usage<G>), Fault>
+        usage: &mut Usage<G>,
+    ) -> Result<SimpleType, Fault>
         requires { Ready self.now (replicate inputs Num ++ scope_items context.now) types.old (run_node G.Algebra.nil self.now) }
-        ensures { Judges G.Algebra self.now (replicate inputs Num ++ scope_items context.now) (run_node G.Algebra.nil self.now) types.old types.new result }
+        ensures { Judges G.Algebra self.now (replicate inputs Num ++ scope_items context.now) (run_node G.Algebra.nil self.now) types.old types.new (judged_into result usage.new) }
     {
         if inputs == 0 {
-            return self.judge_term(types, context, self.rule.program.nodes.len() - 1);
+            let count = context.len();
+            return self.judge_term(
+                types,
+                context,
+                count,
+                self.rule.program.nodes.len() - 1,
+                usage,
+            );
         }
         let inner = Scope::Inside(SimpleType::Num, &*context);
-        self.judge_run(types, &inner, inputs - 1)
+        self.judge_run(types, &inner, inputs - 1, usage)
     }
 
     // The usage of the run term, where it is a number and each input covers its own.
-    fn judge_rule(&self, types: &mut TypeTable) -> Result<Usage<G>, Fault>
-        ensures { usages_of self.now.rule.now.program.inputs result ≡ rule_judged G.Algebra (graded_rule G.Algebra self.now) }
+    fn judge_rule(&self, types: &mut TypeTable, usage: &mut Usage<G>) -> Result<(), Fault>
+        ensures { usages_of self.now.rule.now.program.inputs (used_into result usage.new) ≡ rule_judged G.Algebra (graded_rule G.Algebra self.now) }
     {
         let program = &self.rule.program;
         types.fill(program);
-        let (answer, usage) = self.judge_run(types, &Scope::Empty, program.inputs)?;
+        let answer = self.judge_run(types, &Scope::Empty, program.inputs, usage)?;
         match answer {
-            SimpleType::Num => {
-                self.cover_inputs(usage.first(program.inputs))?;
-                Ok(usage)
-            }
+            SimpleType::Num => self.cover_inputs(usage.first(program.inputs)),
             SimpleType::To { .. } => {
                 Err(Refusal::AnswerNotNum.at(self.place(program.nodes.len() - 1)))
             }
@@ -103,10 +108,13 @@ pub fn judge_program<G: Algebra>(
         return Err(Refusal::AlreadyJudged.at(0));
     }
     let graded = GradedRule { rule, grades };
-    match graded.judge_rule(types) {
-        Ok(usage) => {
+    let mut usage = Usage::none();
+    let judged = graded.judge_rule(types, &mut usage);
+    let used = usage.first(rule.program.inputs);
+    match judged {
+        Ok(()) => {
             *verdict = Some(Verdict::Accepted);
-            report(&mut work[..WORK], usage.first(rule.program.inputs));
+            report(&mut work[..WORK], used);
             Ok(())
         }
         Err(fault) => {

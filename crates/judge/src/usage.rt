@@ -1,5 +1,5 @@
 // Usages: how often each open binder is used.
-ghost use Rattle.std.specs.Prelude.{◌≡◌, ℕ, ◌<◌, ◌≤◌, take, replicate, slice_index_or, slice_set};
+ghost use Rattle.std.specs.Prelude.{◌≡◌, ◌<◌, ◌≤◌, length, take, replicate, slice_index_or, slice_set};
 ghost use Rattle.typing.specs.Usages.{binder_by_binder, sum, join, product};
 ghost use Rattle.judge.specs.Newest.{newest};
 
@@ -46,48 +46,47 @@ impl<G: Algebra> Usage<G> {
     // The usages of the first binders.
     pub(crate) fn first(&self, n: usize) -> &[G]
         requires { n ≤ 32 }
-        ensures { result.now ≡ take n self.now.grades }
+        ensures usages { result.now ≡ take n self.now.grades }
+        ensures many { length result.now ≡ n }
     {
         &self.grades[..n]
     }
 
-    // The usage and another, combined binder by binder.
-    fn combine_with<F: Fn(G, G) -> G>(self, other: Usage<G>, combine: F) -> Usage<G>
-        requires { F.IsAlwaysCallable combine }
-        ensures { (f : G → G → G) → ((p q r : G) → F.post combine p q r → r ≡ f p q) → result.grades ≡ binder_by_binder f self.grades other.grades }
+    // The usage is combined with another, binder by binder, for the first `count` binders.
+    fn combine_with<F: Fn(G, G) -> G>(&mut self, other: &Usage<G>, count: usize, combine: F)
+        requires few { count ≤ 32 }
+        requires callable { F.IsAlwaysCallable combine }
+        ensures { (f : G → G → G) → ((p q r : G) → F.post combine p q r → r ≡ f p q) → newest G.Algebra.nil self.new.grades count ≡ binder_by_binder f (newest G.Algebra.nil self.old.grades count) (newest G.Algebra.nil other.now.grades count) }
     {
-        let mut grades = self.grades;
-        // by index: after `iter_mut` a proof knows the length alone, `from_fn` leaves its closure's answers unknown, and `map`
-        // asks that an array of any grades fits in memory
-        for (i, q) in other.grades.iter().enumerate() {
-            grades[i] = combine(grades[i], *q);
+        // by index: after `iter_mut` a proof knows the length alone
+        for i in 0..count {
+            self.grades[i] = combine(self.grades[i], other.grades[i]);
         }
-        Usage { grades }
     }
 
-    // The usage of two parts that are both run.
-    pub(crate) fn add(self, other: Usage<G>) -> Usage<G>
-        ensures { (n : ℕ) → n ≤ 32 → newest G.Algebra.nil result.grades n ≡ sum G.Algebra (newest G.Algebra.nil self.grades n) (newest G.Algebra.nil other.grades n) }
+    // Adds the usage of another part, where both are run, for the first `count` binders.
+    pub(crate) fn add(&mut self, other: &Usage<G>, count: usize)
+        requires few { count ≤ 32 }
+        ensures { newest G.Algebra.nil self.new.grades count ≡ sum G.Algebra (newest G.Algebra.nil self.old.grades count) (newest G.Algebra.nil other.now.grades count) }
     {
-        self.combine_with(other, G::sum)
+        self.combine_with(other, count, G::sum);
     }
 
-    // The usage of two parts of which one is run.
-    pub(crate) fn join(self, other: Usage<G>) -> Usage<G>
-        ensures { (n : ℕ) → n ≤ 32 → newest G.Algebra.nil result.grades n ≡ join G.Algebra (newest G.Algebra.nil self.grades n) (newest G.Algebra.nil other.grades n) }
+    // Joins the usage of another part, where one of the two is run, for the first `count` binders.
+    pub(crate) fn join(&mut self, other: &Usage<G>, count: usize)
+        requires few { count ≤ 32 }
+        ensures { newest G.Algebra.nil self.new.grades count ≡ join G.Algebra (newest G.Algebra.nil self.old.grades count) (newest G.Algebra.nil other.now.grades count) }
     {
-        self.combine_with(other, G::join)
+        self.combine_with(other, count, G::join);
     }
 
-    // The usage, as often as the grade says.
-    pub(crate) fn scale(self, grade: G) -> Usage<G>
-        ensures { (n : ℕ) → n ≤ 32 → newest G.Algebra.nil result.grades n ≡ product G.Algebra grade (newest G.Algebra.nil self.grades n) }
+    // Takes the usage as often as the grade says, for the first `count` binders.
+    pub(crate) fn scale(&mut self, grade: G, count: usize)
+        requires few { count ≤ 32 }
+        ensures { newest G.Algebra.nil self.new.grades count ≡ product G.Algebra grade (newest G.Algebra.nil self.old.grades count) }
     {
-        let mut grades = self.grades;
-        // by index, for the same reasons
-        for i in 0..grades.len() {
-            grades[i] = grade.product(grades[i]);
+        for i in 0..count {
+            self.grades[i] = grade.product(self.grades[i]);
         }
-        Usage { grades }
     }
 }

@@ -1,3 +1,4 @@
 pub mod Sound
 pub mod Chains
 pub mod Clearing
+pub mod Growth

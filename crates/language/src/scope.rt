@@ -28,11 +28,16 @@ impl<T: Copy> Scope<'_, T> {
     pub fn get(&self, k: usize) -> Option<T>
         ensures { result ≡ slice_get (scope_items self.now) k }
     {
-        match self {
-            Scope::Empty => None,
-            Scope::Inside(known, _) if k == 0 => Some(*known),
-            Scope::Inside(_, outer) => outer.get(k - 1),
+        let mut scope = self;
+        let mut left = k;
+        while let Scope::Inside(known, outer) = scope {
+            if left == 0 {
+                return Some(*known);
+            }
+            left -= 1;
+            scope = outer;
         }
+        None
     }
 }
 
@@ -43,10 +48,15 @@ impl Scope<'_, &[u8]> {
         ensures index { result ≡ find name.now (open_names self.now) }
         ensures within { IfSome result (λ k. k < length (scope_items self.now)) }
     {
-        match self {
-            Scope::Empty => None,
-            Scope::Inside(innermost, _) if *innermost == name => Some(0),
-            Scope::Inside(_, outer) => Some(outer.index_of(name)? + 1),
+        let mut scope = self;
+        let mut passed = 0;
+        while let Scope::Inside(innermost, outer) = scope {
+            if *innermost == name {
+                return Some(passed);
+            }
+            passed += 1;
+            scope = outer;
         }
+        None
     }
 }

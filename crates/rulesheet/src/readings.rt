@@ -4,7 +4,7 @@ ghost use Rattle.std.specs.Option.{option_map};
 ghost use Rattle.rulesheet.specs.Readings.{blank, readings};
 
 use std::alloc::{AllocError, Global};
-use text::integer;
+use text::signed_integer;
 
 // Whether a byte stands between words.
 fn is_blank(b: &u8) -> bool
@@ -19,7 +19,7 @@ pub fn readings_of(heap: Global, line: &[u8]) -> Result<Option<Vec<i32>>, AllocE
 {
     let mut numbers = Vec::new(heap);
     for word in line.split(is_blank).filter(|word| !word.is_empty()) {
-        let Some(number) = integer(word) else {
+        let Some(number) = signed_integer(word) else {
             return Ok(None);
         };
         numbers.push(number)?;

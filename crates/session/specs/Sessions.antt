@@ -1,12 +1,13 @@
 -- What a session has, and what its calls do. Assumes nothing.
-use Rattle.std.specs.Prelude.{ℕ, cond, List, length, take, drop, Some, None, Ok, Err, Option, Result, nat_lt, slice_index_or}
+use Rattle.std.specs.Prelude.{ℕ, ◌+◌, ◌≤◌, cond, List, length, take, drop, Some, None, Ok, Err, Option, Result, nat_lt, slice_index_or}
 use Rattle.tokens.specs.declared.refusal.Fault.{Fault}
 use Rattle.tokens.specs.declared.refusal.Refusal.TheVariants.{ShortList}
 use Rattle.language.specs.declared.program.Binder.{Binder}
 use Rattle.tokens.specs.Tokens.{fault}
-use Rattle.language.specs.Tables.{no_binder}
+use Rattle.language.specs.Tables.{no_binder, BindersSound, TypesSound, NodesSound}
 use Rattle.language.specs.Reading.{Tables, no_tables, text_read, left_by}
 use Rattle.grades.specs.declared.algebra.Algebra.{Ghosts}
+use Rattle.grammar.specs.Closing.{run_size}
 use Rattle.judge.specs.declared.verdict.Verdict.{Verdict}
 use Rattle.judge.specs.Programs.{Judged, program_judged}
 use Rattle.session.specs.declared.phase.Phase.{Phase}
@@ -43,6 +44,22 @@ with_verdict m j = (j.0, model m.phase m.rule j.1, j.2)
 -- what a judging answers, and the session and the work list that it leaves
 abbrev pub session_judged : {G : Type 0} → Ghosts G → List G → Model → List G → Result (Unit {0}) Fault × Model × List G
 session_judged a list m work = with_verdict m (program_judged a m.rule list m.verdict work)
+
+-- what holds of every session: its rule's entries refer to older ones and to what is there, the limits hold, and its run term is
+-- closed
+pub record Sound (m : Model) : Type 0 where
+  pub binders : BindersSound m.rule.grades m.rule.binders
+  pub types : TypesSound m.rule.grades m.rule.types
+  pub nodes : NodesSound (length m.rule.binders) (length m.rule.types) m.rule.nodes
+  pub counted : length m.rule.nodes + length m.rule.types ≤ m.rule.words
+  pub named : length m.rule.binders ≤ m.rule.inputs + m.rule.words
+  pub declared : m.rule.inputs ≤ length m.rule.binders
+  pub few_inputs : m.rule.inputs ≤ 8
+  pub few_grades : m.rule.grades ≤ 256
+  pub few_words : m.rule.words ≤ 512
+  pub closed : (run_size m.rule.nodes).binders ≤ m.rule.inputs
+  pub levels : (run_size m.rule.nodes).levels ≤ 24
+  pub functions : (run_size m.rule.nodes).functions ≤ 512
 
 -- the binders of the inputs
 abbrev pub inputs_of : Model → List Binder

@@ -1,7 +1,7 @@
 // Making a session, loading a rule, and looking at its inputs.
 ghost use Rattle.std.specs.Prelude.{◌≡◌, ◌<◌, length, IfOk, OnOk};
 ghost use Rattle.grammar.specs.Sentences.{Exact};
-ghost use Rattle.session.specs.Sessions.{no_rule, loaded, inputs_of, input_at};
+ghost use Rattle.session.specs.Sessions.{no_rule, loaded, Sound, inputs_of, input_at};
 
 use crate::phase::Phase;
 use crate::state::Session;
@@ -16,7 +16,8 @@ use tokens::{Fault, Refusal};
 impl Session {
     // A session without a rule. All the room that its calls will ever need is taken here.
     pub fn new(heap: Global) -> Result<Session, AllocError>
-        ensures { IfOk result (λ s. s ≡ no_rule) }
+        ensures made { IfOk result (λ s. s ≡ no_rule) }
+        ensures sound { IfOk result Sound }
     {
         let rule = ClosedProgram::new(heap)?;
         let types = TypeTable::new(heap)?;
@@ -36,7 +37,10 @@ impl Session {
         ensures loads { (result, self.new, grades.new) ≡ loaded G.reading G.Algebra.unit G.Algebra.nil text.now self.old grades.old }
         ensures exact { Exact G.reading G.Algebra.unit }
         ensures there { OnOk result (0 < length self.new.rule.nodes) }
+        ensures sound { Sound self.new }
     {
+        // looked at, so that the proof knows what holds of it where the list is too short
+        let _ = &self.rule;
         if grades.len() < GRADES {
             return Err(Refusal::ShortList.at(0));
         }
@@ -51,6 +55,7 @@ impl Session {
     pub fn inputs(&self) -> &[Binder]
         ensures binders { result.now ≡ inputs_of self.now }
         ensures all { length result.now ≡ self.now.rule.inputs }
+        ensures sound { Sound self.now }
     {
         let program = &self.rule.program;
         &program.binders[..program.inputs]
@@ -58,7 +63,8 @@ impl Session {
 
     // The binder of the input number `i`, counted from 0, if the rule has so many.
     pub fn input(&self, i: usize) -> Option<Binder>
-        ensures { result ≡ input_at self.now i }
+        ensures binder { result ≡ input_at self.now i }
+        ensures sound { Sound self.now }
     {
         self.inputs().get(i).copied()
     }

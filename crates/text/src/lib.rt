@@ -5,6 +5,6 @@ pub mod numeral;
 pub mod put;
 pub mod scan;
 
-pub use numeral::{decimal, integer};
+pub use numeral::{decimal, integer, signed_integer};
 pub use put::{put_bytes, put_decimal, room_after, room_after_decimal};
 pub use scan::{Class, run_end};

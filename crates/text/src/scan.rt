@@ -20,7 +20,7 @@ impl Class {
     {
         match self {
             Class::Blank => matches!(b, b' ' | b'\n' | b'\r'),
-            Class::Digit => b.is_ascii_digit(),
+            Class::Digit => matches!(b, b'0'..=b'9'),
             Class::Wordy => b.is_ascii_alphanumeric() || b == b'_',
             Class::Inside => b != b'}',
         }

@@ -4,7 +4,7 @@ ghost use Rattle.tokens.specs.Tokens.{token_at, word_at, signed_at, grade_at, se
 
 use crate::refusal::{Fault, Refusal};
 use grades::Written;
-use text::{Class, integer, run_end};
+use text::{Class, run_end, signed_integer};
 
 // The longest word.
 const LONGEST_WORD: usize = 16;
@@ -73,7 +73,7 @@ fn number_at<G: Written>(text: &[u8], place: usize) -> Result<Placed<'_, G>, Fau
     if number == b"-".as_slice() {
         return Err(Refusal::NoToken.at(place));
     }
-    let n = integer(number).ok_or(Refusal::BadToken.at(place))?;
+    let n = signed_integer(number).ok_or(Refusal::BadToken.at(place))?;
     Ok(Placed {
         token: Token::Number(number, n),
         place,

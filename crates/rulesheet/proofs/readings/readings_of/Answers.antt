@@ -12,13 +12,13 @@ loop-word-init c = rw c.new-numbers.ensures.items (begun c.args.line.now)
 pub returns-in_default : goal.returns-in_default
 returns-in_default c =
     let turn = YieldsList-turn (YieldsList-at c.into_iter-word-iterator.ensures.into_iter_gives (YieldsList-from_filter _ has_bytes (YieldsList-at c.filter-word-items.ensures.source (YieldsList-from_slice_split _ blank c.args.line.now c.split.ensures.rest c.split.ensures.done c.split.ensures.closure (λ x b q k. search (rules, tests)))) c.filter-word-items.ensures.closure (λ x b q k. search (rules, tests)))) c.loop-word.yielded _ c.loop-word.yielded_by _ _ c.in-Some.word c.in-Some.is c.next.ensures.steps in
-    no_number c.args.line.now (length c.loop-word.yielded) c.in-Some.word.now (vec_items c.loop-word.numbers) turn c.loop-word.invariant (sym c.in_default.is ∙ c.integer.ensures)
+    no_number c.args.line.now (length c.loop-word.yielded) c.in-Some.word.now (vec_items c.loop-word.numbers) turn c.loop-word.invariant (sym c.in_default.is ∙ c.signed_integer.ensures)
 
 pub loop-word-preserved : goal.loop-word-preserved
 loop-word-preserved c =
     let turn = YieldsList-turn (YieldsList-at c.into_iter-word-iterator.ensures.into_iter_gives (YieldsList-from_filter _ has_bytes (YieldsList-at c.filter-word-items.ensures.source (YieldsList-from_slice_split _ blank c.args.line.now c.split.ensures.rest c.split.ensures.done c.split.ensures.closure (λ x b q k. search (rules, tests)))) c.filter-word-items.ensures.closure (λ x b q k. search (rules, tests)))) c.loop-word.yielded _ c.loop-word.yielded_by _ _ c.in-Some.word c.in-Some.is c.next.ensures.steps in
-    let pushed : vec_items c.push.new.self ≡ vec_items c.loop-word.numbers ++ c.in-Some-integer.number ∷ [] = search rules in
-    rw (length_push c.loop-word.yielded c.in-Some.word) (number_more c.args.line.now (length c.loop-word.yielded) c.in-Some.word.now (vec_items c.loop-word.numbers) turn c.loop-word.invariant c.in-Some-integer.number (vec_items c.push.new.self) c.in-Some-integer.ensures pushed)
+    let pushed : vec_items c.push.new.self ≡ vec_items c.loop-word.numbers ++ c.in-Some-signed_integer.number ∷ [] = search rules in
+    rw (length_push c.loop-word.yielded c.in-Some.word) (number_more c.args.line.now (length c.loop-word.yielded) c.in-Some.word.now (vec_items c.loop-word.numbers) turn c.loop-word.invariant c.in-Some-signed_integer.number (vec_items c.push.new.self) c.in-Some-signed_integer.ensures pushed)
 
 pub returns : goal.returns
 returns c =

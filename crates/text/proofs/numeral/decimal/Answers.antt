@@ -1,16 +1,22 @@
-use Rattle.std.proofs.Common.{rules, arith, ◌≡◌, ◌<◌, length, leb, slice_index_or, ◌∙◌, sym, ap}
-use Rattle.std.proofs.lemmas.Map.Entries.{option_filter}
-use Rattle.std.proofs.lemmas.Bool.Decides.{nat_tests}
-use Rattle.text.proofs.Numbers.{upto_parsed, upto_no_text}
+use Rattle.std.proofs.Common.{◌+◌, ◌*◌, drop, sym, ◌∙◌, arith, rules}
+use Rattle.text.proofs.Numbers.{after_more, after_other, after_above, after_all, upto_plain}
 use Rattle.text.proofs.numeral.decimal.Goals as goal
 
-pub returns-in_err-ok-in_default : goal.returns-in_err-ok-in_default
-returns-in_err-ok-in_default c = c.from_residual.ensures ∙ sym (upto_no_text c.args.digits.now c.args.limit (λ text. search rules))
+pub loop-b-init : goal.loop-b-init
+loop-b-init c = (omega arith, upto_plain c.args.digits.now c.args.limit (search rules) (search rules))
 
-pub returns-in_ok-ok-in_default : goal.returns-in_ok-ok-in_default
-returns-in_ok-ok-in_default c =
-    let plus : slice_index_or c.args.digits.now 0 0 ≡ 43 → ⊥ = λ e. grind (arith, nat_tests) in
-    let zero : 1 < length c.args.digits.now → slice_index_or c.args.digits.now 0 0 ≡ 48 → ⊥ = λ two e. grind (arith, nat_tests) in
-    let text : c.in_ok-ok-in_default.field-0.now ≡ c.args.digits.now = search rules in
-    let filtered : c.filter.result ≡ option_filter (λ n. leb n c.args.limit) c.ok-in_default.result = search rules in
-    filtered ∙ ap (option_filter (λ n. leb n c.args.limit)) c.ok-in_default.ensures.value ∙ upto_parsed c.args.digits.now c.args.limit c.parse.result (rw text at c.parse.ensures.value.0) c.ranges.limit.fits plus zero
+pub returns-then-not-holds : goal.returns-then-not-holds
+returns-then-not-holds c =
+    sym (c.loop-b.invariant.1 ∙ after_other c.args.limit c.loop-b.number c.args.digits.now c.loop-b.b-index (search rules) (search rules))
+
+pub returns-then-number-from : goal.returns-then-number-from
+returns-then-number-from c =
+    sym (c.loop-b.invariant.1 ∙ after_more c.args.limit c.loop-b.number (c.loop-b.number * 10 + c.from.result) c.args.digits.now c.loop-b.b-index (search rules) (search rules) (omega arith) ∙ after_above c.args.limit (c.loop-b.number * 10 + c.from.result) (drop (c.loop-b.b-index + 1) c.args.digits.now) (omega arith))
+
+pub loop-b-preserved : goal.loop-b-preserved
+loop-b-preserved c =
+    (omega arith, c.loop-b.invariant.1 ∙ after_more c.args.limit c.loop-b.number _ c.args.digits.now c.loop-b.b-index (search rules) (search rules) (omega arith))
+
+pub returns : goal.returns
+returns c =
+    sym (c.loop-b.invariant.1 ∙ after_all c.args.limit c.loop-b.number c.args.digits.now c.loop-b.b-index (search rules) c.loop-b.invariant.0)
